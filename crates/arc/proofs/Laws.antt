@@ -1,0 +1,163 @@
+-- The laws of `arcOf` that callers use, for h from 0 to 1. None shows the formula.
+--   arc-in        the arc lies from 0 to `quarterTurn`, the f32 nearest to half of pi, so it is finite
+--   arc-positive  the arc of what is above 0 is above 0
+--   arc-nought    the arc of 0 is 0
+--   arc-one       the arc of 1 is `quarterTurn`
+-- Assumes nothing.
+use mathlib.Core.Path.{_≡_, refl, sym, ap, _∙_, subst}
+use mathlib.Core.Bool.{Bool, true, false, cond}
+use lib.IntN.{pos, negsuc}
+use lib.Dec.{T, ltb}
+use lib.Ieee.{Float, nan, inf, fin, binary32, ofBits, add, sub, mul, div, le, lt, neg}
+use lib.Ieee.Scale.{finite}
+use lib.Ieee.Positive.{positive}
+use Rattle.square_root.specs.Root.{rootOf}
+use Rattle.square_root.proofs.Laws.{root-not-below, root-half, root-nought}
+use Rattle.float_order.specs.Value.{zero32, one32, number}
+use Rattle.float_order.proofs.Order.{le-through, le-right, lt→le, not-lt, lt-le-lt}
+use Rattle.float_order.specs.Interval.{In}
+use Rattle.float_order.proofs.Intervals.{in-finite, in-wider, in-self, in-add, in-sub, in-mul-up, in-mul-down, in-div}
+use Rattle.arc.specs.Arc.{one, two, half, tiny, quarterTurn, p0, p1, p2, q1, bend, bent, halfBelow, nearOne, arcOf}
+
+abbrev quarter : Float
+quarter = fin false 1 (negsuc 1)
+
+abbrev eighth : Float
+eighth = fin false 1 (negsuc 2)
+
+-- ---- R, for z from 0 to 0.25: from 0 to 0.125
+module _ (z : Float) (i : In zero32 quarter z) where
+  inner : In (fin true 1 (negsuc 3)) zero32 (add binary32 p1 (mul binary32 z p2))
+  unfolding ofBits add mul le
+  inner =
+      in-wider (fin true 1 (negsuc 3)) zero32 tt tt
+      (in-add binary32 {a = p1} {b = p1} {c = mul binary32 quarter p2} {d = zero32} tt tt tt tt (in-self p1 tt)
+      (in-mul-down binary32 {b = quarter} {d = p2} tt tt i (record { low = tt; high = tt })))
+
+  outer : In eighth quarter (add binary32 p0 (mul binary32 z (add binary32 p1 (mul binary32 z p2))))
+  unfolding ofBits add mul le
+  outer =
+      in-wider eighth quarter tt tt
+      (in-add binary32 {a = p0} {b = p0} {c = mul binary32 quarter (fin true 1 (negsuc 3))} {d = zero32} tt tt tt tt (in-self p0 tt)
+      (in-mul-down binary32 {b = quarter} {d = fin true 1 (negsuc 3)} tt tt i inner))
+
+  above : In zero32 (fin false 1 (negsuc 3)) (mul binary32 z (add binary32 p0 (mul binary32 z (add binary32 p1 (mul binary32 z p2)))))
+  unfolding mul le
+  above =
+      in-wider zero32 (fin false 1 (negsuc 3)) tt tt
+      (in-mul-up binary32 {b = quarter} {d = quarter} tt tt i (in-wider zero32 quarter tt tt outer))
+
+  beneath : In (fin false 3 (negsuc 1)) one32 (add binary32 one (mul binary32 z q1))
+  unfolding ofBits add mul le
+  beneath =
+      in-wider (fin false 3 (negsuc 1)) one32 tt tt
+      (in-add binary32 {a = one} {b = one} {c = mul binary32 quarter q1} {d = zero32} tt tt tt tt (in-self one tt)
+      (in-mul-down binary32 {b = quarter} {d = q1} tt tt i (record { low = tt; high = tt })))
+
+  bend-in : In zero32 eighth (bend z)
+  unfolding bend div le
+  bend-in = in-wider zero32 eighth tt tt (in-div binary32 {b = fin false 1 (negsuc 3)} {d = fin false 3 (negsuc 1)} tt tt above {e = one32} tt tt beneath)
+
+-- ---- x + x * R(z), for an x from 0 to 0.5: from 0 to 0.5625
+bent-in : (x z : Float) → In zero32 half x → In zero32 quarter z → In zero32 (fin false 9 (negsuc 3)) (bent x z)
+unfolding ofBits add mul le
+bent-in x z i j =
+    in-wider zero32 (fin false 9 (negsuc 3)) tt tt
+    (in-add binary32 {a = zero32} {b = half} {c = zero32} {d = fin false 1 (negsuc 3)} tt tt tt tt i
+    (in-wider zero32 (fin false 1 (negsuc 3)) tt tt (in-mul-up binary32 {b = half} {d = eighth} tt tt i (bend-in z j))))
+
+-- and it is at least 2 ^ -12 where x is
+bent-low : (x z : Float) → In tiny half x → In zero32 quarter z → T (le tiny (bent x z))
+unfolding ofBits add mul le
+bent-low x z i j =
+    in-wider tiny one32 tt tt
+    (in-add binary32 {a = tiny} {b = half} {c = zero32} {d = fin false 1 (negsuc 3)} tt tt tt tt i
+    (in-wider zero32 (fin false 1 (negsuc 3)) tt tt (in-mul-up binary32 {b = half} {d = eighth} tt tt (in-wider zero32 half tt tt i) (bend-in z j)))) .low
+
+-- ---- from 0.5 to 1: from 0.25 to `quarterTurn`
+half-below-in : (h : Float) → In half one32 h → In zero32 quarter (halfBelow h)
+unfolding ofBits sub mul le
+half-below-in h i =
+    in-wider zero32 quarter tt tt
+    (in-mul-up binary32 {b = half} {d = half} tt tt (in-wider zero32 half tt tt (in-sub binary32 {a = one} {b = one} {c = half} {d = one32} tt tt tt tt (in-self one tt) i)) (record { low = tt; high = tt }))
+
+root-in : (z : Float) → In zero32 quarter z → In zero32 half (rootOf z)
+unfolding ofBits
+root-in z i = record { low = root-not-below z (i .low); high = root-half z (i .low) (i .high) }
+
+near-one-in : (h : Float) → In half one32 h → In quarter quarterTurn (nearOne h)
+unfolding nearOne ofBits sub mul le
+near-one-in h i =
+    let z = half-below-in h i in
+    in-wider quarter quarterTurn tt tt
+    (in-sub binary32 {a = quarterTurn} {b = quarterTurn} {c = zero32} {d = fin false 9 (negsuc 2)} tt tt tt tt (in-self quarterTurn tt)
+    (in-wider zero32 (fin false 9 (negsuc 2)) tt tt
+    (in-mul-up binary32 {b = two} {d = fin false 9 (negsuc 3)} {x = two} tt tt (record { low = tt; high = tt }) (bent-in (rootOf (halfBelow h)) (halfBelow h) (root-in (halfBelow h) z) z))))
+
+-- ---- the arc
+square-in : (h : Float) → In zero32 half h → In zero32 quarter (mul binary32 h h)
+unfolding ofBits mul le
+square-in h i = in-wider zero32 quarter tt tt (in-mul-up binary32 {b = half} {d = half} tt tt i i)
+
+tiny-small : T (le tiny quarterTurn)
+unfolding le ofBits
+tiny-small = tt
+
+tiny-above : T (lt zero32 tiny)
+unfolding lt ofBits
+tiny-above = tt
+
+quarter-above : T (lt zero32 quarter)
+unfolding lt
+quarter-above = tt
+
+mid : {x : Float} → In zero32 (fin false 9 (negsuc 3)) x → In zero32 quarterTurn x
+unfolding le ofBits
+mid j = in-wider zero32 quarterTurn tt tt j
+
+end : {x : Float} → In quarter quarterTurn x → In zero32 quarterTurn x
+unfolding le ofBits
+end j = in-wider zero32 quarterTurn tt tt j
+
+module _ (h : Float) (i : In zero32 one32 h) where
+  low-half : In tiny half h → In zero32 half h
+  low-half j = record { low = i .low; high = j .high }
+
+  -- a law that holds in each of the three ways holds of the arc
+  three : (P : Float → Type 0) → (T (lt h tiny) → P h) → (In tiny half h → P (bent h (mul binary32 h h))) → (In half one32 h → P (nearOne h)) → P (arcOf h)
+  unfolding arcOf ofBits
+  three P p q r = go (lt h tiny) (lt h half) p (λ k. not-lt h tiny N tt k) (λ t. lt→le h half t) (λ k. not-lt h half N tt k)
+    where
+      N : T (number h)
+      N = le-right zero32 h (i .low)
+
+      go : (s t : Bool) → (T s → P h) → (s ≡ false → T (le tiny h)) → (T t → T (le h half)) → (t ≡ false → T (le half h)) → P (cond s h (cond t (bent h (mul binary32 h h)) (nearOne h)))
+      go true t a b c d = a tt
+      go false true a b c d = q (record { low = b refl; high = c tt })
+      go false false a b c d = r (record { low = d refl; high = i .high })
+
+  pub arc-in : In zero32 quarterTurn (arcOf h)
+  arc-in =
+      three (λ (x : Float). In zero32 quarterTurn x)
+      (λ t. record { low = i .low; high = le-through h tiny quarterTurn (lt→le h tiny t) tiny-small })
+      (λ j. mid (bent-in h (mul binary32 h h) (low-half j) (square-in h (low-half j))))
+      (λ j. end (near-one-in h j))
+
+  pub arc-finite : T (finite (arcOf h))
+  unfolding ofBits
+  arc-finite = in-finite tt tt arc-in
+
+  pub arc-positive : T (lt zero32 h) → T (lt zero32 (arcOf h))
+  arc-positive t =
+      three (λ (x : Float). T (lt zero32 x)) (λ s. t)
+      (λ j. lt-le-lt zero32 tiny (bent h (mul binary32 h h)) tiny-above (bent-low h (mul binary32 h h) j (square-in h (record { low = i .low; high = j .high }))))
+      (λ j. lt-le-lt zero32 quarter (nearOne h) quarter-above (near-one-in h j .low))
+
+-- ---- single values
+pub arc-nought : arcOf zero32 ≡ zero32
+unfolding arcOf lt ofBits
+arc-nought = refl
+
+pub arc-one : arcOf one32 ≡ ofBits binary32 0x3FC9_0FDB
+unfolding arcOf nearOne bend lt ofBits add sub mul div
+arc-one = ap (λ (s : Float). sub binary32 quarterTurn (mul binary32 two (bent s zero32))) (root-nought false)

@@ -1,0 +1,22 @@
+use lib.Ieee.{nanBits}
+use Rattle.arc.specs.Arc.{nearOne}
+use borrow.Author.Needs.{needs}
+use Rattle.arc.proofs.near_one.Statement.{statement}
+use Rattle.arc.proofs.near_one.Tie as tie
+
+sqrt-requires : tie.Need-sqrt-requires
+sqrt-requires c κs = search needs
+
+float-from-bits-result : tie.Need-float-from-bits-result
+unfolding nanBits
+float-from-bits-result c = tt
+
+bend-requires : tie.Need-bend-requires
+bend-requires c κs = search needs
+
+returns : tie.Need-returns
+unfolding nearOne
+returns c = cc
+
+pub near-one-spec : {M : Type 1} → statement M
+near-one-spec = tie.close (tie.spec sqrt-requires float-from-bits-result bend-requires returns)

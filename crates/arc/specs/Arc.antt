@@ -1,0 +1,55 @@
+-- The arc: what stands in for the arcsine, from 0 to 1. Definitions only.
+use mathlib.Core.Bool.{cond}
+use lib.Ieee.{Float, binary32, ofBits, add, sub, mul, div, lt}
+use Rattle.square_root.specs.Root.{rootOf}
+
+abbrev pub one : Float
+one = ofBits binary32 0x3F80_0000
+
+abbrev pub two : Float
+two = ofBits binary32 0x4000_0000
+
+abbrev pub half : Float
+half = ofBits binary32 0x3F00_0000
+
+-- 2 ^ -12
+abbrev pub tiny : Float
+tiny = ofBits binary32 0x3980_0000
+
+-- the f32 nearest to half of pi
+abbrev pub quarterTurn : Float
+quarterTurn = ofBits binary32 0x3FC9_0FDB
+
+-- the f32 nearest to 1.6666586697e-01, -4.2743422091e-02, -8.6563630030e-03 and -7.0662963390e-01
+abbrev pub p0 : Float
+p0 = ofBits binary32 0x3E2A_AA75
+
+abbrev pub p1 : Float
+p1 = ofBits binary32 0xBD2F_13BA
+
+abbrev pub p2 : Float
+p2 = ofBits binary32 0xBC0D_D36B
+
+abbrev pub q1 : Float
+q1 = ofBits binary32 0xBF34_E5AE
+
+-- R(z)
+unfoldable pub bend : Float → Float
+bend z =
+    div binary32
+    (mul binary32 z (add binary32 p0 (mul binary32 z (add binary32 p1 (mul binary32 z p2)))))
+    (add binary32 one (mul binary32 z q1))
+
+-- x + x * R(z)
+abbrev pub bent : Float → Float → Float
+bent x z = add binary32 x (mul binary32 x (bend z))
+
+abbrev pub halfBelow : Float → Float
+halfBelow h = mul binary32 (sub binary32 one h) half
+
+-- from 0.5 on
+unfoldable pub nearOne : Float → Float
+nearOne h = sub binary32 quarterTurn (mul binary32 two (bent (rootOf (halfBelow h)) (halfBelow h)))
+
+unfoldable pub arcOf : Float → Float
+arcOf h = cond (lt h tiny) h (cond (lt h half) (bent h (mul binary32 h h)) (nearOne h))

@@ -1,0 +1,3 @@
+pub mod Truncation
+pub mod Magnitudes
+pub mod Halves

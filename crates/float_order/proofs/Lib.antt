@@ -1,0 +1,11 @@
+pub mod Order
+pub mod Rounding
+pub mod Operations
+pub mod Held
+pub mod Bounds
+pub mod Truncation
+pub mod KeyParts
+pub mod PartWidth
+pub mod Unique
+pub mod Intervals
+pub mod Risings
