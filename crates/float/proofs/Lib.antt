@@ -1,3 +1,4 @@
 pub mod Truncation
 pub mod Magnitudes
 pub mod Halves
+pub mod Nans

@@ -1,7 +1,7 @@
 // Total helpers on f32 and u64: each says what it returns for every input, NaN, the infinities and -0 included.
 ghost use mathlib.Core.Path.{_≡_};
 ghost use Prim.Native.Nat.{_*_, _%_, _^_, _<_};
-ghost use lib.Ieee.{binary32, toUnsigned, ofBits};
+ghost use lib.Ieee.{binary32, toUnsigned, ofBits, toBits};
 ghost use lib.Ieee.Scale.{finite};
 ghost use Rattle.float.specs.Magnitude.{magnitudeOf};
 ghost use Rattle.float.specs.Bytes.{wordOf};
@@ -61,6 +61,16 @@ pub fn from_bits(n: u32) -> f32
     } else {
         f32::from_bits(n)
     }
+}
+
+// The bit pattern of x; a NaN's is 7FC00000.
+pub fn to_bits(x: f32) -> u32
+    ensures { λ r. ⌜ r ≡ toBits binary32 x ⌝ }
+{
+    if x == x {
+        return f32::to_bits(x);
+    }
+    0x7fc0_0000
 }
 
 fn wide(b: u8) -> u32

@@ -1,5 +1,5 @@
 use mathlib.Core.Path.{_∙_}
-use Rattle.float.proofs.Truncation.{nan-pattern}
+use Rattle.float.proofs.Nans.{nan-pattern}
 use borrow.Author.Tests.{lt-ltb, le-ltb}
 use lib.Ieee.{binary32, ofBits, div}
 use lib.Ieee.Bits.{nanBits-above}
