@@ -1,0 +1,1 @@
+-- The contracts of this crate cite the definitions of the leaves' own crates.
