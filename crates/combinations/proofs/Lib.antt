@@ -1,0 +1,6 @@
+pub mod Lists
+pub mod EachFour
+pub mod Walk
+pub mod Count
+pub mod Successor
+pub mod Cases

@@ -1,0 +1,88 @@
+-- Laws of lists made of a list for each element: what holds of every element, what stands in them, how long they are, what a successor walks. Assumes nothing.
+use mathlib.Core.Path.{_≡_, sym, _∙_, ap, subst}
+use Prim.Native.Nat.{ℕ, zero, suc, _+_, _-_, _*_, _≤_, _<_}
+use native.Mathlib.Omega.{arith}
+use native.Mathlib.Nat.{suc-mul}
+use native.Mathlib.Decide.{decLe}
+use mathlib.Core.List.{List, [], _∷_, _++_, append-assoc}
+use mathlib.Core.Option.{Option, some}
+use lib.ListN.{length, take, length-append}
+use Rattle.combinations.specs.Lists.{each, span, upto, All, In, Follows, firstOf}
+
+module _ {A : Type 0} (P : A → Type 0) where
+  pub all-append : (xs ys : List A) → All P xs → All P ys → All P (xs ++ ys)
+  all-append [] ys p q = q
+  all-append (x ∷ xs) ys p q = (p .0, all-append xs ys (p .1) q)
+
+  pub all-take : (n : ℕ) (xs : List A) → All P xs → All P (take n xs)
+  all-take zero xs p = tt
+  all-take (suc n) [] p = tt
+  all-take (suc n) (x ∷ xs) p = (p .0, all-take n xs (p .1))
+
+  all-mid : (pre : List A) (x : A) (post : List A) → All P (pre ++ x ∷ post) → P x
+  all-mid [] x post p = p .0
+  all-mid (y ∷ pre) x post p = all-mid pre x post (p .1)
+
+  pub all-in : (xs : List A) (x : A) → In x xs → All P xs → P x
+  all-in xs x m p = all-mid (m .0) x (m .1) (subst (All P) (m .2) p)
+
+  pub all-each : {B : Type 0} (Q : B → Type 0) (xs : List B) (f : B → List A) → ((x : B) → Q x → All P (f x)) → All Q xs → All P (each xs f)
+  unfolding each
+  all-each Q [] f h q = tt
+  all-each Q (x ∷ xs) f h q = all-append (f x) (each xs f) (h x (q .0)) (all-each Q xs f h (q .1))
+
+  pub all-span : (m lo : ℕ) (f : ℕ → List A) → ((x : ℕ) → lo ≤ x → x < lo + m → All P (f x)) → All P (each (span lo m) f)
+  unfolding each span
+  all-span zero lo f h = tt
+  all-span (suc m) lo f h =
+      all-append (f lo) (each (span (suc lo) m) f) (h lo (omega arith) (omega arith))
+      (all-span m (suc lo) f λ x p q. h x (omega arith) (omega arith))
+
+  pub all-upto : (lo hi : ℕ) (f : ℕ → List A) → ((x : ℕ) → lo ≤ x → x < hi → All P (f x)) → All P (each (upto lo hi) f)
+  unfolding upto
+  all-upto lo hi f h = all-span (hi - lo) lo f λ x p q. h x p (omega arith)
+
+module _ {A : Type 0} (x : A) where
+  pub in-left : (xs ys : List A) → In x xs → In x (xs ++ ys)
+  in-left xs ys m = (m .0, m .1 ++ ys, ap (_++ ys) (m .2) ∙ append-assoc (m .0) (x ∷ m .1) ys)
+
+  pub in-right : (xs ys : List A) → In x ys → In x (xs ++ ys)
+  in-right xs ys m = (xs ++ m .0, m .1, ap (xs ++_) (m .2) ∙ sym (append-assoc xs (m .0) (x ∷ m .1)))
+
+  pub in-span : (m lo : ℕ) (f : ℕ → List A) (n : ℕ) → lo ≤ n → n < lo + m → In x (f n) → In x (each (span lo m) f)
+  unfolding each span
+  in-span zero lo f n p q h = absurd (omega arith)
+  in-span (suc m) lo f n p q h = by (decLe n lo) (λ z. in-span m (suc lo) f n z (omega arith) h)
+    where
+      by : Dec (n ≤ lo) → (lo < n → In x (each (span (suc lo) m) f)) → In x (f lo ++ each (span (suc lo) m) f)
+      by (yes z) ih = in-left (f lo) _ (let e : n ≡ lo = omega arith in subst (λ y. In x (f y)) e h)
+      by (no z) ih = in-right (f lo) _ (ih (omega arith))
+
+  pub in-upto : (lo hi : ℕ) (f : ℕ → List A) (n : ℕ) → lo ≤ n → n < hi → In x (f n) → In x (each (upto lo hi) f)
+  unfolding upto
+  in-upto lo hi f n p q h = in-span (hi - lo) lo f n p (omega arith) h
+
+-- at most `most` from each element
+pub length-each : {A B : Type 0} (P : A → Type 0) (xs : List A) (f : A → List B) (most : ℕ) → ((x : A) → P x → length (f x) ≤ most) → All P xs → length (each xs f) ≤ length xs * most
+unfolding each
+length-each P [] f most h p = omega arith
+length-each P (x ∷ xs) f most h p =
+    omega (arith, length-append (f x) (each xs f), h x (p .0), length-each P xs f most h (p .1), suc-mul (length xs) most)
+
+-- what stands after an element
+pub all-after : {A : Type 0} (P : A → Type 0) (pre : List A) (x : A) (post : List A) → All P (pre ++ x ∷ post) → All P post
+all-after P [] x post h = h .1
+all-after P (y ∷ pre) x post h = all-after P pre x post (h .1)
+
+-- a walk begins with the list's first, and from an element on it walks the rest
+pub follows-is-first : {A : Type 0} (next : A → Option A) (xs : List A) (o : Option A) → Follows next o xs → o ≡ firstOf xs
+follows-is-first next [] o h = h
+follows-is-first next (x ∷ xs) o h = h .0
+
+pub follows-first : {A : Type 0} (P : A → Type 0) (next : A → Option A) (xs : List A) (o : Option A) (x : A) → Follows next o xs → All P xs → o ≡ some x → P x
+follows-first P next [] o x f h e = absurd (let z : _≡_ {A = ℕ} 0 1 = cc in omega arith)
+follows-first P next (y ∷ xs) o x f h e = let z : y ≡ x = cc (f .0) in subst P z (h .0)
+
+pub follows-mid : {A : Type 0} (next : A → Option A) (pre : List A) (x : A) (post : List A) (o : Option A) → Follows next o (pre ++ x ∷ post) → Follows next (next x) post
+follows-mid next [] x post o h = h .1
+follows-mid next (y ∷ pre) x post o h = follows-mid next pre x post (next y) (h .1)

@@ -1,0 +1,46 @@
+-- "Four positions in the kept list after its cut, strictly rising, listed by sum and within a sum lexicographically." Definitions only.
+use Prim.Native.Nat.{ℕ, zero, suc, _+_, _*_, _<_}
+use mathlib.Core.List.{List, [], _∷_}
+use mathlib.Core.Bool.{Bool, cond, _&&_}
+use lib.Dec.{eqb}
+use Rattle.combinations.specs.Lists.{each, upto}
+pub use Rattle.combinations.specs.declared.Four.{Four}
+
+-- strictly rising positions below n
+pub record Rising (n : ℕ) (q : Four) : Type 0 where
+  pub ab : q .a < q .b
+  pub bc : q .b < q .c
+  pub cd : q .c < q .d
+  pub dn : q .d < n
+
+-- the sum of a four's positions
+unfoldable pub sum : Four → ℕ
+sum q = q .a + q .b + q .c + q .d
+
+-- all a < b < c < d < n with the sum s, lexicographically
+unfoldable pub foursOf : ℕ → ℕ → List Four
+foursOf n s =
+    each (upto 0 n) λ a.
+    each (upto (suc a) n) λ b.
+    each (upto (suc b) n) λ c.
+    each (upto (suc c) n) λ d.
+    cond (eqb (a + b + c + d) s) (record { a = a; b = b; c = c; d = d } ∷ []) []
+
+-- all fours below n, by sum: four positions below n have a sum below 4 n
+unfoldable pub fours : ℕ → List Four
+fours n = each (upto 0 (4 * n)) (foursOf n)
+
+-- the same four positions
+unfoldable pub sameFour : Four → Four → Bool
+sameFour q p = eqb (q .a) (p .a) && (eqb (q .b) (p .b) && (eqb (q .c) (p .c) && eqb (q .d) (p .d)))
+
+-- how often a four stands in a list
+unfoldable pub times : Four → List Four → ℕ
+times q [] = 0
+times q (p ∷ ps) = cond (sameFour q p) (suc (times q ps)) (times q ps)
+
+-- how many ways there are to choose k of n
+unfoldable pub choose : ℕ → ℕ → ℕ
+choose zero n = 1
+choose (suc k) zero = 0
+choose (suc k) (suc n) = choose k n + choose (suc k) n

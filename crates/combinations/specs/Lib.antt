@@ -1,0 +1,4 @@
+pub mod Lists
+pub mod Fours
+pub mod Successor
+pub mod Claims

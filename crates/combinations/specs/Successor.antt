@@ -1,0 +1,53 @@
+-- "The next combination worked out from the present one." `WalksFours` of Claims.antt says that this walks the list of fours. Definitions only.
+use Prim.Native.Nat.{ℕ, suc, _+_, _-_, _*_, max}
+use mathlib.Core.Bool.{cond}
+use mathlib.Core.Option.{Option, none, some}
+use lib.Dec.{leb}
+use Rattle.combinations.specs.Fours.{Four, sum}
+use Rattle.combinations.specs.declared.MaybeFour.{MaybeFour}
+use Rattle.combinations.specs.declared.MaybeFour.the-variants.{Next, Nothing}
+
+-- Of the fours below n with the sum s that begin with a and b: the first whose third is at least c, where there is one.
+unfoldable pub withC : ℕ → ℕ → ℕ → ℕ → ℕ → Four
+withC n s a b c =
+    let x = max c (s + 1 - (a + b + n)) in
+    record { a = a; b = b; c = x; d = s - (a + b + x) }
+
+-- .. that begin with a: the first whose second is at least b
+unfoldable pub withB : ℕ → ℕ → ℕ → ℕ → Four
+withB n s a b =
+    let x = max b (s + 3 - (a + 2 * n)) in
+    withC n s a x (suc x)
+
+-- .. the first whose first is at least a
+unfoldable pub withA : ℕ → ℕ → ℕ → Four
+withA n s a =
+    let x = max a (s + 6 - 3 * n) in
+    withB n s x (suc x)
+
+-- The first four below n at sum s or later. The least sum is 0 + 1 + 2 + 3, the largest 4 n - (1 + 2 + 3 + 4).
+unfoldable pub fromSum : ℕ → ℕ → Option Four
+fromSum n s = cond (leb (max s 6 + 10) (4 * n)) (some (withA n (max s 6) 0)) none
+
+-- The first at sum s from a, from (a, b), from (a, b, c) on, or at a later sum.
+unfoldable pub fromA : ℕ → ℕ → ℕ → Option Four
+fromA n s a = cond (leb (4 * max a (s + 6 - 3 * n) + 6) s) (some (withA n s a)) (fromSum n (suc s))
+
+unfoldable pub fromB : ℕ → ℕ → ℕ → ℕ → Option Four
+fromB n s a b = cond (leb (a + 3 * max b (s + 3 - (a + 2 * n)) + 3) s) (some (withB n s a b)) (fromA n s (suc a))
+
+unfoldable pub fromC : ℕ → ℕ → ℕ → ℕ → ℕ → Option Four
+fromC n s a b c = cond (leb (a + b + 2 * max c (s + 1 - (a + b + n)) + 1) s) (some (withC n s a b c)) (fromB n s a (suc b))
+
+-- the first four below n
+unfoldable pub firstFour : ℕ → Option Four
+firstFour n = fromSum n 0
+
+-- the four after q
+unfoldable pub nextFour : ℕ → Four → Option Four
+nextFour n q = fromC n (sum q) (q .a) (q .b) (suc (q .c))
+
+-- the code's answer: a four or none
+abbrev pub maybeOf : MaybeFour → Option Four
+maybeOf (Next q) = some q
+maybeOf Nothing = none

@@ -1,0 +1,128 @@
+// The combinations of a pass: four positions in the kept list, strictly rising, by sum and within a sum lexicographically.
+// The next one is worked out from the present one.
+ghost use mathlib.Core.Path.{_≡_};
+ghost use Prim.Native.Nat.{_-_, _≤_, max};
+ghost use Rattle.combinations.specs.Fours.{Rising};
+ghost use Rattle.combinations.specs.Successor.{withA, withB, withC, fromSum, fromA, fromB, firstFour, nextFour, maybeOf};
+
+// Four positions in the kept list.
+pub struct Four {
+    pub a: u32,
+    pub b: u32,
+    pub c: u32,
+    pub d: u32,
+}
+
+// A four, or none where the list is through.
+pub enum MaybeFour {
+    Next(Four),
+    Nothing,
+}
+
+fn larger(x: u32, y: u32) -> u32
+    ensures { λ r. ⌜ r ≡ max x y ⌝ }
+{
+    if x < y { y } else { x }
+}
+
+// The difference, 0 where it would be below 0.
+fn less(x: u32, y: u32) -> u32
+    ensures { λ r. ⌜ r ≡ x - y ⌝ }
+{
+    if y <= x { x - y } else { 0 }
+}
+
+// Of the fours with the sum s that begin with a and b: the first whose third is at least c.
+fn with_c(n: u32, s: u32, a: u32, b: u32, c: u32) -> Four
+    requires { ⌜ (n ≤ 64) × (s ≤ 256) × (a ≤ 512) × (b ≤ 512) × (c ≤ 512) ⌝ }
+    ensures { λ r. ⌜ r ≡ withC n s a b c ⌝ }
+{
+    let x = larger(c, less(s + 1, a + b + n));
+    Four {
+        a: a,
+        b: b,
+        c: x,
+        d: less(s, a + b + x),
+    }
+}
+
+// .. that begin with a: the first whose second is at least b.
+fn with_b(n: u32, s: u32, a: u32, b: u32) -> Four
+    requires { ⌜ (n ≤ 64) × (s ≤ 256) × (a ≤ 500) × (b ≤ 500) ⌝ }
+    ensures { λ r. ⌜ r ≡ withB n s a b ⌝ }
+{
+    let x = larger(b, less(s + 3, a + 2 * n));
+    with_c(n, s, a, x, x + 1)
+}
+
+// .. the first whose first is at least a.
+fn with_a(n: u32, s: u32, a: u32) -> Four
+    requires { ⌜ (n ≤ 64) × (s ≤ 256) × (a ≤ 400) ⌝ }
+    ensures { λ r. ⌜ r ≡ withA n s a ⌝ }
+{
+    let x = larger(a, less(s + 6, 3 * n));
+    with_b(n, s, x, x + 1)
+}
+
+// The first four at the sum s or later.
+fn from_sum(n: u32, s: u32) -> MaybeFour
+    requires { ⌜ (n ≤ 64) × (s ≤ 256) ⌝ }
+    ensures { λ r. ⌜ maybeOf r ≡ fromSum n s ⌝ }
+{
+    let t = larger(s, 6);
+    if t + 10 <= 4 * n {
+        MaybeFour::Next(with_a(n, t, 0))
+    } else {
+        MaybeFour::Nothing
+    }
+}
+
+// The first at the sum s whose first is at least a, or at a later sum.
+fn from_a(n: u32, s: u32, a: u32) -> MaybeFour
+    requires { ⌜ (n ≤ 64) × (s ≤ 255) × (a ≤ 65) ⌝ }
+    ensures { λ r. ⌜ maybeOf r ≡ fromA n s a ⌝ }
+{
+    let x = larger(a, less(s + 6, 3 * n));
+    if 4 * x + 6 <= s {
+        MaybeFour::Next(with_a(n, s, a))
+    } else {
+        from_sum(n, s + 1)
+    }
+}
+
+// The first at the sum s that begins with a and whose second is at least b, or from a + 1 on.
+fn from_b(n: u32, s: u32, a: u32, b: u32) -> MaybeFour
+    requires { ⌜ (n ≤ 64) × (s ≤ 255) × (a ≤ 64) × (b ≤ 65) ⌝ }
+    ensures { λ r. ⌜ maybeOf r ≡ fromB n s a b ⌝ }
+{
+    let x = larger(b, less(s + 3, a + 2 * n));
+    if a + 3 * x + 3 <= s {
+        MaybeFour::Next(with_b(n, s, a, b))
+    } else {
+        from_a(n, s, a + 1)
+    }
+}
+
+// The first of the fours below n, of which there is none for n below 4.
+pub fn first_four(n: u32) -> MaybeFour
+    requires { ⌜ n ≤ 64 ⌝ }
+    ensures { λ r. ⌜ maybeOf r ≡ firstFour n ⌝ }
+{
+    from_sum(n, 0)
+}
+
+// The four after q. Most often the third goes up by one and the fourth down by one.
+pub fn next_four(n: u32, q: Four) -> MaybeFour
+    requires { ⌜ (n ≤ 64) × Rising n q ⌝ }
+    ensures { λ r. ⌜ maybeOf r ≡ nextFour n q ⌝ }
+{
+    if q.c + 2 < q.d {
+        return MaybeFour::Next(Four {
+            a: q.a,
+            b: q.b,
+            c: q.c + 1,
+            d: q.d - 1,
+        });
+    }
+    from_b(n, q.a + q.b + q.c + q.d, q.a, q.b + 1)
+}

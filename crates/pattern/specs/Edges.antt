@@ -1,0 +1,77 @@
+-- The edges of a pattern of four directions, and their ratios. Definitions only.
+use mathlib.Core.Bool.{cond}
+use mathlib.Core.List.{List, [], _∷_}
+use lib.ListN.{getD}
+use lib.Ieee.{Float, nan, binary32, ofBits, add, sub, mul, div, lt}
+use Rattle.square_root.specs.Root.{rootOf}
+use Rattle.arc.specs.Arc.{arcOf}
+use Rattle.float_order.specs.Choice.{smaller}
+use Rattle.pattern.specs.Sort.{sorted}
+
+-- 0, 0.5, 1 and 2
+abbrev pub nought : Float
+nought = ofBits binary32 0
+
+abbrev pub half : Float
+half = ofBits binary32 0x3F00_0000
+
+abbrev pub one : Float
+one = ofBits binary32 0x3F80_0000
+
+abbrev pub two : Float
+two = ofBits binary32 0x4000_0000
+
+-- "The source's powi(2) is read as a product of the value with itself."
+abbrev pub squared : Float → Float
+squared x = mul binary32 x x
+
+-- the squared distance of two points, added from left to right
+unfoldable pub squaredDistance : List Float → List Float → Float
+squaredDistance a b =
+    add binary32
+    (add binary32
+    (squared (sub binary32 (getD a 0 nan) (getD b 0 nan)))
+    (squared (sub binary32 (getD a 1 nan) (getD b 1 nan))))
+    (squared (sub binary32 (getD a 2 nan) (getD b 2 nan)))
+
+abbrev pub distance : List Float → List Float → Float
+distance a b = rootOf (squaredDistance a b)
+
+-- "Six distances give six angles, each twice the arc of half the distance, that half cut to at most 1"
+unfoldable pub angleOf : Float → Float
+angleOf d = mul binary32 two (arcOf (smaller (mul binary32 half d) one))
+
+abbrev pub angle : List Float → List Float → Float
+angle a b = angleOf (distance a b)
+
+-- the six pairs, in the source's order
+unfoldable pub angles : List (List Float) → List Float
+angles v =
+    angle (getD v 0 []) (getD v 1 [])
+    ∷ angle (getD v 0 []) (getD v 2 [])
+    ∷ angle (getD v 0 []) (getD v 3 [])
+    ∷ angle (getD v 1 []) (getD v 2 [])
+    ∷ angle (getD v 1 []) (getD v 3 [])
+    ∷ angle (getD v 2 []) (getD v 3 [])
+    ∷ []
+
+-- ".. sorted upwards"
+unfoldable pub edgesOf : List (List Float) → List Float
+edgesOf v = sorted lt (angles v)
+
+-- "each ratio is one division of an edge by the largest"
+unfoldable pub shares : List Float → List Float
+shares e =
+    div binary32 (getD e 0 nan) (getD e 5 nan)
+    ∷ div binary32 (getD e 1 nan) (getD e 5 nan)
+    ∷ div binary32 (getD e 2 nan) (getD e 5 nan)
+    ∷ div binary32 (getD e 3 nan) (getD e 5 nan)
+    ∷ div binary32 (getD e 4 nan) (getD e 5 nan)
+    ∷ []
+
+abbrev pub noughts : List Float
+noughts = nought ∷ nought ∷ nought ∷ nought ∷ nought ∷ []
+
+-- "A largest edge not above 0 makes all five ratios 0."
+unfoldable pub ratiosOf : List Float → List Float
+ratiosOf e = cond (lt nought (getD e 5 nan)) (shares e) noughts

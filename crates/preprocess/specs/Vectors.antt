@@ -1,0 +1,34 @@
+-- Places, centroid indices and unit vectors. Definitions only.
+use Prim.Native.Nat.{ℕ, _+_, _*_}
+use mathlib.Core.List.{List, [], _∷_}
+use lib.ListN.{getD}
+use lib.Ieee.{Float, nan, binary32, ofBits, add, mul, div}
+use Rattle.square_root.specs.Root.{rootOf}
+use Rattle.preprocess.specs.declared.Place.{Place}
+use Rattle.preprocess.specs.declared.CentroidIndex.{CentroidIndex}
+
+abbrev pub one : Float
+one = ofBits binary32 0x3F80_0000
+
+-- the norm of (u, v, 1): the root of the sum of squares, added from left to right
+unfoldable pub normOf : Float → Float → Float
+normOf u v = rootOf (add binary32 (add binary32 (mul binary32 u u) (mul binary32 v v)) (mul binary32 one one))
+
+-- (u, v, 1) divided by its norm
+unfoldable pub overNorm : Float → Float → List Float
+unfolding normOf
+overNorm u v = div binary32 u (normOf u v) ∷ div binary32 v (normOf u v) ∷ div binary32 one (normOf u v) ∷ []
+
+-- "(x·scale, y·scale, 1), divided by its norm."
+unfoldable pub unitOf : Float → Float → Float → List Float
+unfolding overNorm
+unitOf x y scale = overNorm (mul binary32 x scale) (mul binary32 y scale)
+
+-- the centroid at a place of the brightness list
+unfoldable pub centroidOf : List ℕ → Place → CentroidIndex
+centroidOf order p = record { 0 = getD order (p .0) 0 }
+
+-- the unit vector of a centroid: pairs of f32, x then y
+unfoldable pub vectorOf : List Float → CentroidIndex → Float → List Float
+unfolding unitOf
+vectorOf c i scale = unitOf (getD c (2 * (i .0)) nan) (getD c (2 * (i .0) + 1) nan) scale

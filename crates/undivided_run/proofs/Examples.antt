@@ -1,0 +1,50 @@
+-- Document 01's case of ten slots, and small runs that hold its rules of statuses against the definitions. Assumes nothing.
+use mathlib.Core.Path.{_≡_, refl}
+use Prim.Native.Nat.{ℕ, _+_, _*_, _%_}
+use mathlib.Core.List.{List, [], _∷_, map}
+use mathlib.Core.Bool.{true, cond}
+use mathlib.Core.Option.{none, some}
+use lib.ListN.{length, getD}
+use lib.Dec.{eqb}
+use Rattle.combinations.specs.declared.Four.{Four}
+use Rattle.combinations.specs.Fours.{fours, foursOf}
+use Rattle.combinations.specs.Lists.{each, span, upto}
+use Rattle.undivided_run.specs.Undivided.{Status, TooFew, NoMatch, Timeout, Feed, Cap, absent, given, reached, isZero, isSome, ended, _before_, slotOf, filled, chain, readsOf, checked, combinations, passesFrom, undivided}
+
+abbrev four : ℕ → ℕ → ℕ → ℕ → Four
+four a b c d = record { a = a; b = b; c = c; d = d }
+
+-- A table of the slots given, 1 filled and 0 empty; each combination has two keys, with homes 1 and 4; an entry at slot 5 is a candidate.
+abbrev feed : List ℕ → List ℕ → Feed ℕ ℕ
+feed kept table =
+    record {
+      passes = length kept;
+      kept = λ i. getD kept i 0;
+      keys = λ i q. 2;
+      home = λ i q k. 1 + 3 * k;
+      slots = length table;
+      patterns = 1;
+      entry = λ x. cond (eqb (getD table x 0) 1) (some x) none;
+      test = λ r x. cond (eqb x 5) (some (r .pass)) none;
+      sound = λ x. true;
+    }
+
+abbrev full : List ℕ
+full = 1 ∷ 1 ∷ 1 ∷ 1 ∷ 1 ∷ 1 ∷ 1 ∷ 1 ∷ 1 ∷ 1 ∷ []
+
+-- Home 1 of 10 slots, none empty: 1, 2, 5, 0, 7, 6, 7, 0, 5, 2.
+pub probes-of-ten : map (slotOf (feed (4 ∷ []) full)) (chain (feed (4 ∷ []) full) 0 (four 0 1 2 3) 0 10 0) ≡ 1 ∷ 2 ∷ 5 ∷ 0 ∷ 7 ∷ 6 ∷ 7 ∷ 0 ∷ 5 ∷ 2 ∷ []
+unfolding slotOf chain filled isSome
+probes-of-ten = refl
+
+abbrev pub runs : List ℕ → List ℕ → Cap → ℕ × Status
+runs kept table cap = (length ((undivided (feed kept table) cap) .reads), (undivided (feed kept table) cap) .status)
+
+-- kept 3: TooFew, also without slots; 0 slots: NoMatch; cap 0: Timeout; a cap used up on the last combination of the last pass: NoMatch, of an earlier pass: Timeout
+pub run-statuses : (map (runs (3 ∷ []) full) (absent ∷ given 0 ∷ []) ≡ (0, TooFew) ∷ (0, Timeout) ∷ [])
+    × (runs (4 ∷ 0 ∷ []) [] absent ≡ (0, TooFew))
+    × (runs (4 ∷ []) [] absent ≡ (0, NoMatch))
+    × (map (runs (5 ∷ []) full) (given 5 ∷ given 4 ∷ absent ∷ []) ≡ (100, NoMatch) ∷ (80, Timeout) ∷ (100, NoMatch) ∷ [])
+    × (map (runs (5 ∷ 3 ∷ []) full) (given 6 ∷ given 5 ∷ []) ≡ (100, TooFew) ∷ (100, Timeout) ∷ [])
+unfolding undivided passesFrom combinations checked reached readsOf chain filled isSome slotOf ended _before_ isZero fours foursOf each span upto
+run-statuses = (refl, refl, refl, refl, refl)

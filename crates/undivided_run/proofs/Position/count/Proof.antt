@@ -1,0 +1,23 @@
+use Rattle.undivided_run.proofs.Steps.{bump-first, bump-key, bump-probe}
+use mathlib.Core.Path.{_≡_, refl, sym, _∙_, ap}
+use native.Mathlib.Omega.{arith}
+use Rattle.undivided_run.specs.Undivided.{starts, isZero}
+use Rattle.undivided_run.specs.Step.{bump}
+use borrow.Author.Needs.{needs}
+use Rattle.undivided_run.proofs.Position.count.Statement.{statement}
+use Rattle.undivided_run.proofs.Position.count.Tie as tie
+
+add-result : tie.Need-add-result
+add-result c = search needs
+
+returns : tie.Need-returns
+returns c = bump-first _ _ (c .before .before .if1 .taken) (c .if2 .taken)
+
+returns-2 : tie.Need-returns-2
+returns-2 c = bump-key _ _ (c .before .before .if1 .taken) (c .if2 .left)
+
+returns-3 : tie.Need-returns-3
+returns-3 c = bump-probe _ _ (c .if1 .left)
+
+pub count-spec : {M : Type 1} → statement M
+count-spec = tie.close (tie.spec add-result returns returns-2 returns-3)

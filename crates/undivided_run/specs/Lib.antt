@@ -1,0 +1,9 @@
+pub mod Undivided
+pub mod Calls
+pub mod Step
+pub mod Moves
+pub mod Exists
+pub mod Tried
+pub mod Listing
+pub mod Eight
+pub mod Good

@@ -1,0 +1,144 @@
+-- The search call that the code makes: the next read is worked out from the present one. Assumes nothing.
+use Prim.Native.Nat.{ℕ, zero, suc, _+_, _-_}
+use mathlib.Core.Path.{_≡_}
+use mathlib.Core.List.{List, [], _∷_}
+use mathlib.Core.Bool.{Bool, true, false, cond, _&&_, _||_}
+use mathlib.Core.Option.{Option, none, some}
+use lib.Dec.{ltb}
+use Rattle.combinations.specs.declared.Four.{Four}
+use Rattle.combinations.specs.Successor.{firstFour, nextFour}
+use Rattle.undivided_run.specs.Undivided.{Status, TooFew, NoMatch, Timeout, Read, Feed, Cap, reached, isZero, cases, starts, slotOf, filled, gives}
+use Rattle.undivided_run.specs.Calls.{Answer, candidate, used, over, refused}
+pub use Rattle.undivided_run.specs.declared.Next.{Next}
+pub use Rattle.undivided_run.specs.declared.Next.the-variants.{Goes as goes, Ends as ends}
+pub use Rattle.undivided_run.specs.declared.Phase.{Phase as Stage}
+pub use Rattle.undivided_run.specs.declared.Phase.the-variants.{Fresh as new, At as at, Ended as done}
+pub use Rattle.undivided_run.specs.declared.State.{State}
+
+-- a fresh state counts 0 patterns and 0 reads
+unfoldable pub start : State
+start = record { phase = new; patterns = 0; reads = 0 }
+
+unfoldable pub settle : Next → Stage
+settle (goes r) = at r
+settle (ends s) = done s
+
+unfoldable pub final : Stage → Option Status
+final new = none
+final (at r) = none
+final (done s) = some s
+
+unfoldable pub bump : Read → ℕ → ℕ
+bump r n = cond (starts r) (suc n) n
+
+-- From w, with n combinations counted, the successor reads exactly these reads and ends with s.
+abbrev pub Walks : (Read → ℕ → Next) → Next → ℕ → List Read → Status → Type 0
+Walks next w n [] s = w ≡ ends s
+Walks next w n (r ∷ rs) s = (w ≡ goes r) × Walks next (next r (bump r n)) (bump r n) rs s
+
+-- what a stage has before it, where `first` is the first read of all
+unfoldable pub look : Next → Stage → Next
+look first new = first
+look first (at r) = goes r
+look first (done s) = ends s
+
+-- Allowance 0 changes nothing while a read is left; only a fresh state has to be looked at for that.
+unfoldable pub zeroCall : {C : Type 0} → State → Next → Answer C × State
+zeroCall st (ends s) = (over s, record { phase = done s; patterns = st .patterns; reads = st .reads })
+zeroCall st (goes r) = (used, st)
+
+-- A bounded iteration over any successor: `first` read, `next` read with the patterns counted by then.
+module _ {C : Type 0} (gives : Read → Option C) (sound : Read → Bool) (next : Read → ℕ → Next) where
+  -- `st` is the state received, which a refusal in the middle hands back.
+  unfoldable pub go : State → ℕ → Next → ℕ → ℕ → Answer C × State
+  go st zero (ends s) n m = (over s, record { phase = done s; patterns = n; reads = m })
+  go st (suc a) (ends s) n m = (over s, record { phase = done s; patterns = n; reads = m })
+  go st zero (goes r) n m = (used, record { phase = at r; patterns = n; reads = m })
+  go st (suc a) (goes r) n m =
+      let k = bump r n in
+      cond (sound r)
+      (cases (gives r)
+      (go st a (next r k) k (suc m))
+      λ x. (candidate x, record { phase = settle (next r k); patterns = k; reads = suc m }))
+      (refused 9, st)
+
+  -- question 9 refuses a call that reads a filled slot whose entry is not sound
+  unfoldable pub nine : ℕ → Next → ℕ → Bool
+  nine zero w n = false
+  nine (suc a) (ends s) n = false
+  nine (suc a) (goes r) n =
+      cond (sound r) (cases (gives r) (nine a (next r (bump r n)) (bump r n)) λ x. false) true
+
+  unfoldable pub call : Next → State → ℕ → Answer C × State
+  call first st zero = zeroCall st (look first (st .phase))
+  call first st (suc a) = go st (suc a) (look first (st .phase)) (st .patterns) (st .reads)
+
+-- The successor of the search itself.
+module _ {E C : Type 0} (F : Feed E C) (cap : Cap) where
+  -- the first read of a combination, the cap asked before it
+  unfoldable pub toFour : ℕ → ℕ → Four → Next
+  toFour tried i q = cond (reached cap tried) (ends Timeout) (goes (record { pass = i; four = q; key = 0; probe = 0 }))
+
+  -- the first read of the passes from i on, `left` of them; `status` is that of the pass before
+  unfoldable pub toPass : ℕ → ℕ → Status → ℕ → Next
+  toPass zero i status tried = ends status
+  toPass (suc left) i status tried =
+      cond (reached cap tried) (ends Timeout)
+      (cond (ltb (F .kept i) 4)
+      (toPass left (suc i) TooFew tried)
+      (cond (isZero (F .slots) || isZero (F .patterns))
+      (toPass left (suc i) NoMatch tried)
+      (cases (firstFour (F .kept i)) (toPass left (suc i) NoMatch tried) λ q. toFour tried i q)))
+
+  -- the read after the last of a combination
+  unfoldable pub afterFour : ℕ → Four → ℕ → Next
+  afterFour i q tried =
+      cases (nextFour (F .kept i) q)
+      (toPass (F .passes - suc i) (suc i) NoMatch tried)
+      λ p. toFour tried i p
+
+  -- the read after the last of a key
+  unfoldable pub afterKey : ℕ → Four → ℕ → ℕ → Next
+  afterKey i q k tried =
+      cond (ltb (suc k) (F .keys i q))
+      (goes (record { pass = i; four = q; key = suc k; probe = 0 }))
+      (afterFour i q tried)
+
+  unfoldable pub nextRead : Read → ℕ → Next
+  nextRead r tried =
+      cond (filled F r && ltb (suc (r .probe)) (F .slots))
+      (goes (record { pass = r .pass; four = r .four; key = r .key; probe = suc (r .probe) }))
+      (afterKey (r .pass) (r .four) (r .key) tried)
+
+  unfoldable pub firstRead : Next
+  firstRead = toPass (F .passes) 0 NoMatch 0
+
+  -- question 9, asked at every filled slot that is read
+  unfoldable pub soundAt : Read → Bool
+  soundAt r = cases (F .entry (slotOf F r)) true (F .sound)
+
+  -- A call that questions 1 to 8 let through.
+  unfoldable pub search : State → ℕ → Answer C × State
+  search = call (gives F) soundAt nextRead firstRead
+
+-- What a call is lent: what the run is fed, its cap, the allowance; `asked` are questions 1 to 8, the number of the first no.
+pub record Lent (E C : Type 0) : Type 0 where
+  pub feed : Feed E C
+  pub cap : Cap
+  pub allowance : ℕ
+  pub asked : State → Option ℕ
+
+-- The search call: a no returns only its number and the state received.
+unfoldable pub searchCall : {E C : Type 0} → State → Lent E C → Answer C × State
+searchCall st x = cases (x .asked st) (search (x .feed) (x .cap) st (x .allowance)) λ k. (refused k, st)
+
+unfoldable pub nineOf : {E C : Type 0} → State → Lent E C → Bool
+nineOf st x =
+    nine (gives (x .feed)) (soundAt (x .feed) (x .cap)) (nextRead (x .feed) (x .cap))
+    (x .allowance)
+    (look (firstRead (x .feed) (x .cap)) (st .phase))
+    (st .patterns)
+
+-- The number under which the questions refuse a call: the first no of 1 to 8, or 9, asked at every filled slot that the call reads.
+unfoldable pub refusalOf : {E C : Type 0} → State → Lent E C → Option ℕ
+refusalOf st x = cases (x .asked st) (cond (nineOf st x) (some 9) none) λ k. some k

@@ -1,0 +1,54 @@
+-- The combinations that a run tries, and lists of which one begins with the other. Definitions only.
+use mathlib.Core.Path.{_≡_}
+use Prim.Native.Nat.{ℕ, zero, suc, _-_, _≤_}
+use mathlib.Core.List.{List, [], _∷_, _++_, map}
+use mathlib.Core.Bool.{cond, _||_}
+use lib.Dec.{ltb}
+use lib.ListN.{take}
+use Rattle.combinations.specs.declared.Four.{Four}
+use Rattle.combinations.specs.Fours.{fours}
+use Rattle.combinations.specs.Lists.{each}
+use Rattle.undivided_run.specs.Undivided.{Read, Feed, Cap, absent, given, isZero, starts, readsOf}
+
+-- The combinations tried in these reads, each with its pass, in order.
+unfoldable pub triedIn : List Read → List (ℕ × Four)
+triedIn [] = []
+triedIn (r ∷ rs) = cond (starts r) ((r .pass, r .four) ∷ triedIn rs) (triedIn rs)
+
+-- the cap, less what was tried already
+unfoldable pub left : Cap → ℕ → Cap
+left absent n = absent
+left (given m) n = given (m - n)
+
+-- as many of a list as a cap lets through
+unfoldable pub capped : {A : Type 0} → Cap → List A → List A
+capped absent xs = xs
+capped (given m) xs = take m xs
+
+module _ {E C : Type 0} (F : Feed E C) where
+  -- the combinations of the passes from i on, `more` of them, each with its pass
+  unfoldable pub foursFrom : ℕ → ℕ → List (ℕ × Four)
+  foursFrom zero i = []
+  foursFrom (suc more) i =
+      cond (ltb (F .kept i) 4 || (isZero (F .slots) || isZero (F .patterns)))
+      (foursFrom more (suc i))
+      (map (λ q. (i, q)) (fours (F .kept i)) ++ foursFrom more (suc i))
+
+  -- .. of all passes: every four of the kept centroids of each pass, by sum of positions and then lexicographically
+  unfoldable pub allFours : List (ℕ × Four)
+  allFours = foursFrom (F .passes) 0
+
+  -- the reads of these combinations
+  abbrev pub readsIn : List (ℕ × Four) → List Read
+  readsIn xs = each xs λ x. readsOf F (x .0) (x .1)
+
+-- the second list begins with the first
+abbrev pub Begins : {A : Type 0} → List A → List A → Type 0
+Begins xs ys = (zs : List _) × (ys ≡ xs ++ zs)
+
+-- the first cap is not higher than the second; an absent cap is the highest
+abbrev pub NoHigher : Cap → Cap → Type 0
+NoHigher absent absent = Unit {0}
+NoHigher absent (given n) = ⊥
+NoHigher (given m) absent = Unit {0}
+NoHigher (given m) (given n) = m ≤ n
