@@ -19,7 +19,7 @@ use lib.Ieee.Scale.{finite}
 use Rattle.square_root.proofs.Laws.{root-not-below, root-finite}
 use Rattle.arc.specs.Arc.{quarterTurn}
 use Rattle.arc.proofs.Laws.{arc-in}
-use Rattle.float_order.specs.Value.{zero32, one32, number}
+use Rattle.float_order.specs.Value.{zero32, one32}
 use Rattle.float_order.specs.Choice.{smaller}
 use Rattle.float_order.specs.Interval.{In}
 use Rattle.float_order.specs.Rising.{Rising, rises-none, rises-one, rises, Between, between-none, between}
@@ -30,8 +30,8 @@ use Rattle.float_order.proofs.KeyParts.{ratios-rise-in}
 use Rattle.float_order.proofs.Intervals.{in-finite, in-wider, in-add, in-sub, in-mul-up, in-square, mul-nonneg}
 use Rattle.float_order.proofs.Risings.{rising-at, between-at}
 use Rattle.pattern.specs.Sort.{sorted, Each, each-none, each, Chained, chained-none, chained-one, chained}
-use Rattle.pattern.specs.Edges.{nought, half, one, squared, squaredDistance, distance, angleOf, angle, angles, edgesOf, shares, noughts, ratiosOf}
-use Rattle.pattern.specs.Directions.{halfTurn, Small, Unit, Direction, FourOf, Directions, UnitDirections}
+use Rattle.pattern.specs.Edges.{nought, one, squared, squaredDistance, distance, angleOf, angle, angles, edgesOf, shares, noughts, ratiosOf}
+use Rattle.pattern.specs.Directions.{halfTurn, Small, Unit, Direction}
 use Rattle.pattern.specs.Claims.{EdgesRise, EdgesPermuted, EdgeRatiosRise, DirectionsRatios, UnitDirectionsSuffice}
 use Rattle.pattern.proofs.Insertion.{sorted-length}
 use Rattle.pattern.proofs.Sorting.{Comparable, Ready, ready-none, ready, each-map, sorted-perm, sorted-each, sorted-chained}

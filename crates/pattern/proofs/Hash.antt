@@ -1,7 +1,6 @@
 -- The hash as its code works it out, from the highest power down, and its size. Assumes nothing.
 use Prim.Native.Nat.{ℕ, _+_, _*_, _^_, _≤_, _<_}
 use mathlib.Core.Path.{_≡_}
-use mathlib.Core.List.{List}
 use native.Mathlib.Omega.{arith}
 use native.Mathlib.Nat.{mul-le-mul-left, pow-zero, pow-suc}
 use lib.ListN.{getD}

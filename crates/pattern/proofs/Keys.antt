@@ -5,7 +5,7 @@ use lib.ListN.{getD}
 use lib.Ieee.{Float, nan}
 use Rattle.float_order.specs.Value.{zero32, one32}
 use Rattle.float_order.specs.KeyPart.{partOf}
-use Rattle.float_order.specs.Ratios.{Ratio, Ratios}
+use Rattle.float_order.specs.Ratios.{Ratio}
 use Rattle.float_order.proofs.Intervals.{in-finite}
 use Rattle.float_order.proofs.KeyParts.{part-at-most, parts-never-fall}
 use Rattle.pattern.specs.Key.{keyOf, hashOf, homeOf, markOf}
