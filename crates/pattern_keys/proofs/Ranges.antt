@@ -1,0 +1,153 @@
+-- The keys of five ratios: each part has from 1 to 4 values, none above bins, and the image key is in the list, as the first. Assumes nothing.
+use mathlib.Core.Path.{_≡_, refl, sym, ap, _∙_, subst}
+use Prim.Native.Nat.{ℕ, zero, suc, _+_, _^_, _≤_, _<_}
+use native.Mathlib.Omega.{arith}
+use native.Mathlib.Nat.{le-trans}
+use mathlib.Core.List.{List, [], _∷_}
+use lib.IntN.{pos}
+use lib.Dec.{T, le→leb, lit≤}
+use lib.ListN.{length, getD}
+use lib.Seq.{getD-take}
+use lib.Ieee.{Float, nan, binary32, inFloat}
+use lib.Ieee.Scale.{finite}
+use Rattle.float_order.specs.Value.{zero32, one32}
+use Rattle.float_order.specs.KeyPart.{partOf, lowOf, highOf}
+use Rattle.float_order.specs.Ratios.{Ratio, Ratios}
+use Rattle.float_order.proofs.KeyParts.{image-part-in-range, upper-at-most}
+use Rattle.float_order.proofs.PartWidth.{at-most-four-values}
+use Rattle.float_order.proofs.Intervals.{in-finite}
+use Rattle.pattern.specs.Key.{keyOf, hashOf, Parts}
+use Rattle.pattern.proofs.Keys.{part-below, key-rises, key-parts as image-parts}
+use Rattle.pattern_keys.specs.Steps.{Narrow, Holds, HashesOf, Hashed, AllParts}
+use Rattle.pattern_keys.specs.Ranges.{lowerOf, upperOf, keysFor, Tolerance}
+use Rattle.pattern_keys.specs.Listed.{Has, here, there, Listed, Precedes, Ordered, ordered}
+use Rattle.pattern_keys.specs.Claims.{KeysCount, ImageListed, ImageFirst, KeyListed, ListedParts}
+use Rattle.pattern_keys.proofs.Laws.{keys-length, has-some}
+use Rattle.pattern_keys.proofs.Exact.{keys-all, keys-only}
+use Rattle.pattern_keys.proofs.Outward.{keys-ordered, none-before}
+
+-- a number of bins is exact as an f32
+pub bins-exact : (B : ℕ) → B ≤ 4096 → T (inFloat binary32 (pos B))
+unfolding inFloat
+bins-exact B h = le→leb B (2 ^ 24) (le-trans h (lit≤ tt))
+
+pub same-five : {a b c d e a' b' c' d' e' : ℕ} → a ≡ a' → b ≡ b' → c ≡ c' → d ≡ d' → e ≡ e' → _≡_ {A = List ℕ} (a ∷ b ∷ c ∷ d ∷ e ∷ []) (a' ∷ b' ∷ c' ∷ d' ∷ e' ∷ [])
+same-five p q r s t = cc
+
+pub small : (x y B : ℕ) → x ≡ y → y ≤ B → B ≤ 4096 → x < 65536
+small x y B e h k = omega arith
+
+module _ (r e : Float) (B : ℕ) (i : Ratio r) (t : Tolerance e B) where
+  R : T (finite r)
+  R = in-finite {a = zero32} {b = one32} tt tt (i .unit)
+
+  pub low-image : lowOf r e B ≤ partOf r B
+  low-image = image-part-in-range r e B (i .held) (i .unit .low) (i .unit .high) (t .e-finite) (t .e-low) (t .some) (t .few) .0
+
+  pub image-high : partOf r B ≤ highOf r e B
+  image-high = image-part-in-range r e B (i .held) (i .unit .low) (i .unit .high) (t .e-finite) (t .e-low) (t .some) (t .few) .1
+
+  pub high-bound : highOf r e B ≤ B
+  high-bound = upper-at-most r e B R (t .e-finite) (t .some) (t .few)
+
+  pub low-bound : lowOf r e B ≤ B
+  low-bound = le-trans low-image (part-below r B i (t .some) (t .few))
+
+  pub range-narrow : (highOf r e B ≤ lowOf r e B + 3) × (highOf r e B < 65535)
+  range-narrow = (at-most-four-values r e B R (t .e-finite) (i .unit .low) (i .unit .high) (t .e-low) (t .some) (t .few) (t .narrow), within (highOf r e B) B high-bound (t .few))
+    where
+      within : (h b : ℕ) → h ≤ b → b ≤ 4096 → h < 65535
+      within h b p q = omega arith
+
+-- every part has at most 4 values
+pub ranges-narrow : (r : List Float) (e : Float) (B : ℕ) → Ratios r → Tolerance e B → Narrow (lowerOf r e B) (upperOf r e B)
+unfolding lowerOf upperOf
+ranges-narrow r e B i t =
+    record {
+      first = range-narrow (getD r 0 nan) e B (i .first) t;
+      second = range-narrow (getD r 1 nan) e B (i .second) t;
+      third = range-narrow (getD r 2 nan) e B (i .third) t;
+      fourth = range-narrow (getD r 3 nan) e B (i .fourth) t;
+      fifth = range-narrow (getD r 4 nan) e B (i .fifth) t;
+    }
+
+image-in-ranges : (r : List Float) (e : Float) (B : ℕ) → Ratios r → Tolerance e B → Listed (lowerOf r e B) (upperOf r e B) (keyOf r B)
+unfolding keyOf lowerOf upperOf
+image-in-ranges r e B i t =
+    record {
+      p = partOf (getD r 0 nan) B;
+      q = partOf (getD r 1 nan) B;
+      r = partOf (getD r 2 nan) B;
+      s = partOf (getD r 3 nan) B;
+      t = partOf (getD r 4 nan) B;
+      is = refl;
+      rises = key-rises r B i (t .some) (t .few);
+      first = (low-image (getD r 0 nan) e B (i .first) t, image-high (getD r 0 nan) e B (i .first) t);
+      second = (low-image (getD r 1 nan) e B (i .second) t, image-high (getD r 1 nan) e B (i .second) t);
+      third = (low-image (getD r 2 nan) e B (i .third) t, image-high (getD r 2 nan) e B (i .third) t);
+      fourth = (low-image (getD r 3 nan) e B (i .fourth) t, image-high (getD r 3 nan) e B (i .fourth) t);
+      fifth = (low-image (getD r 4 nan) e B (i .fifth) t, image-high (getD r 4 nan) e B (i .fifth) t);
+    }
+
+pub image-listed : ImageListed
+unfolding keysFor
+image-listed r e B i t = keys-all (keyOf r B) (lowerOf r e B) (upperOf r e B) (keyOf r B) (image-in-ranges r e B i t)
+
+pub keys-count : KeysCount
+unfolding keysFor
+keys-count r e B i t = (
+  has-some (keysFor r e B) (image-listed r e B i t),
+  keys-length (keyOf r B) (lowerOf r e B) (upperOf r e B) (ranges-narrow r e B i t),
+)
+
+-- what is in a list, and nothing comes before it, is the first
+first-of : {c k : List ℕ} {l : List (List ℕ)} → Has k l → Ordered (Precedes c) l → (c ≡ k) → getD l 0 [] ≡ k
+first-of {c} {k} (here t) o e = refl
+first-of {c} {k} (there x h) (ordered p o) e = absurd (none-before c x (subst (λ (y : List ℕ). Precedes c x y) (sym e) (p k h)))
+
+pub image-first : ImageFirst
+unfolding keysFor
+image-first r e B i t = first-of (image-listed r e B i t) (keys-ordered (keyOf r B) (lowerOf r e B) (upperOf r e B)) refl
+
+has-at : (l : List (List ℕ)) (i : ℕ) → i < length l → Has (getD l i []) l
+has-at [] i h = absurd (omega arith)
+has-at (x ∷ l) zero h = here l
+has-at (x ∷ l) (suc i) h = there x (has-at l i (omega arith))
+
+pub key-listed : KeyListed
+unfolding keysFor
+key-listed r e B i h = keys-only (keyOf r B) (lowerOf r e B) (upperOf r e B) (getD (keysFor r e B) i []) (has-at (keysFor r e B) i h)
+
+parts-of : (r : List Float) (e : Float) (B : ℕ) → Ratios r → Tolerance e B → (k : List ℕ) → Listed (lowerOf r e B) (upperOf r e B) k → Parts k B
+unfolding lowerOf upperOf
+parts-of r e B i t k l =
+    subst (λ (y : List ℕ). Parts y B) (sym (l .is))
+    (record {
+      few = t .few;
+      first = le-trans (l .first .1) (high-bound (getD r 0 nan) e B (i .first) t);
+      second = le-trans (l .second .1) (high-bound (getD r 1 nan) e B (i .second) t);
+      third = le-trans (l .third .1) (high-bound (getD r 2 nan) e B (i .third) t);
+      fourth = le-trans (l .fourth .1) (high-bound (getD r 3 nan) e B (i .fourth) t);
+      fifth = le-trans (l .fifth .1) (high-bound (getD r 4 nan) e B (i .fifth) t);
+    })
+
+pub listed-parts : ListedParts
+listed-parts r e B i t j h = parts-of r e B i t (getD (keysFor r e B) j []) (key-listed r e B j h)
+
+-- ---- what the code asks of the image key, and of the listed keys
+pub image-small : (r : List Float) (B : ℕ) (k : List ℕ) → Ratios r → 0 < B → B ≤ 4096 → k ≡ keyOf r B
+    → (getD k 0 0 ≤ 4096) × (getD k 1 0 ≤ 4096) × (getD k 2 0 ≤ 4096) × (getD k 3 0 ≤ 4096) × (getD k 4 0 ≤ 4096)
+image-small r B k i p l e = let h = subst (λ (y : List ℕ). Parts y B) (sym e) (image-parts r B i p l) in (le-trans (h .first) l, le-trans (h .second) l, le-trans (h .third) l, le-trans (h .fourth) l, le-trans (h .fifth) l)
+
+at-front : (a : List (List ℕ)) (n : ℕ) (l : List (List ℕ)) (i : ℕ) → Holds a n l → i < n → getD a i [] ≡ getD l i []
+at-front a n l i h k = sym (getD-take n a i [] k) ∙ ap (λ (y : List (List ℕ)). getD y i []) (h .front)
+
+pub held-parts : (r : List Float) (e : Float) (B : ℕ) (a : List (List ℕ)) (n : ℕ) → Ratios r → Tolerance e B → Holds a n (keysFor r e B) → AllParts a n B
+held-parts r e B a n i t h =
+    record {
+      each = λ j k. subst (λ (y : List ℕ). Parts y B) (sym (at-front a n (keysFor r e B) j h k)) (listed-parts r e B i t j (omega (arith, h .count)));
+    }
+
+pub held-hashes : (a : List (List ℕ)) (n : ℕ) (l : List (List ℕ)) (B : ℕ) (out : List ℕ) → Holds a n l → HashesOf B a n out → Hashed out n l B
+held-hashes a n l B out h f =
+    record { count = h .count; each = λ i k. f .each i k ∙ ap (λ (y : List ℕ). hashOf y B) (at-front a n l i h k); long = f .wide }
