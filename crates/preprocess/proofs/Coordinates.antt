@@ -17,6 +17,15 @@ use Rattle.float_order.proofs.Order.{le→below, below→le, holds}
 use Rattle.preprocess.specs.Questions.{farthest, coordinateFits, coordinatesFit}
 use Rattle.preprocess.specs.Claims.{Coordinate}
 
+-- both of two tests
+pub left : (a b : Bool) → (a && b) ≡ true → a ≡ true
+left true b e = refl
+left false b e = e
+
+pub right : (a b : Bool) → (a && b) ≡ true → b ≡ true
+right true b e = e
+right false b e = cc
+
 -- two tests that hold together are equal
 same : (a b : Bool) → (T a → T b) → (T b → T a) → a ≡ b
 same true true f g = refl
@@ -60,15 +69,7 @@ pub coordinates-at : (c : List Float) (k : ℕ) → coordinatesFit c ≡ true �
 unfolding coordinatesFit
 coordinates-at [] k h l = absurd (omega arith)
 coordinates-at (x ∷ c) zero h l = coordinate-in x (left (coordinateFits x) (coordinatesFit c) h)
-  where
-    left : (a b : Bool) → (a && b) ≡ true → a ≡ true
-    left true b e = refl
-    left false b e = e
 coordinates-at (x ∷ c) (suc k) h l = coordinates-at c k (right (coordinateFits x) (coordinatesFit c) h) (omega arith)
-  where
-    right : (a b : Bool) → (a && b) ≡ true → b ≡ true
-    right true b e = e
-    right false b e = cc
 
 -- ---- the scan
 module _ (s : List Float) (i : ℕ) where

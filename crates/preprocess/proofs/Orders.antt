@@ -14,19 +14,8 @@ use lib.ListN.{length, getD, drop, set, replicate, length-set, length-replicate,
 use lib.Seq.{drop-cons, getD-set-same, getD-set-other}
 use Rattle.preprocess.specs.Questions.{centroidsFit, orderFits, allBelow, among, noneTwice}
 use Rattle.preprocess.specs.Vectors.{centroidOf}
+use Rattle.preprocess.proofs.Coordinates.{left, right}
 use Rattle.preprocess.specs.Claims.{PlacesHaveCentroids, PlacesAtMost256}
-
-left : (a b : Bool) → (a && b) ≡ true → a ≡ true
-left true b e = refl
-left false b e = e
-
-right : (a b : Bool) → (a && b) ≡ true → b ≡ true
-right true b e = e
-right false b e = cc
-
-no-and : (a : Bool) → (a && false) ≡ false
-no-and true = refl
-no-and false = refl
 
 -- ---- the definitions at a list from an index on
 module _ (s : List ℕ) (i : ℕ) where

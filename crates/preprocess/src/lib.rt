@@ -123,7 +123,8 @@ pub fn centroid_of(order: &[u32], p: Place) -> CentroidIndex
     ensures { λ r. ⌜ r ≡ centroidOf (now (order .entry)) p ⌝ }
 {
     let i = p.0 as usize;
-    CentroidIndex(order[i])
+    let index = order[i];
+    CentroidIndex(index)
 }
 
 // (x·scale, y·scale, 1), divided by its norm. The source's parity sign is 1 here, and 1·x is x.

@@ -1,5 +1,4 @@
 -- `preprocess::centroids_fit` meets its contract. Assumes nothing.
-use Prim.Native.Nat.{_-_}
 use borrow.Author.Tests.{eq-eqb, ne-eqb, le-leb, lt-leb}
 use Rattle.preprocess.specs.Questions.{centroidsFit}
 use Rattle.preprocess.proofs.centroids_fit.Statement.{statement}

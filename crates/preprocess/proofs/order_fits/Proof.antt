@@ -1,11 +1,9 @@
 -- `preprocess::order_fits` meets its contract. Assumes nothing.
-use Prim.Native.Nat.{_-_}
 use mathlib.Core.Path.{_∙_, sym}
 use borrow.Author.Needs.{needs}
 use borrow.Author.Tests.{not-true, not-false}
 use Rattle.preprocess.specs.Questions.{orderFits}
 use Rattle.preprocess.proofs.Orders.{below-wider}
-use borrow.Author.Needs.{needs}
 use Rattle.preprocess.proofs.order_fits.Statement.{statement}
 use Rattle.preprocess.proofs.order_fits.Tie as tie
 

@@ -1,11 +1,9 @@
 -- `tolerance::max_error` meets its contract. Assumes nothing.
-use Prim.Native.Nat.{_-_, _≤_}
 use borrow.Author.Needs.{needs}
 use lib.Dec.{le→leb, lit≤}
 use native.Mathlib.Nat.{le-trans}
 use lib.Ieee.{inFloat}
 use Rattle.tolerance.specs.Tolerances.{toleranceOf}
-use borrow.Author.Needs.{needs}
 use Rattle.tolerance.proofs.max_error.Statement.{statement}
 use Rattle.tolerance.proofs.max_error.Tie as tie
 

@@ -1,11 +1,9 @@
 -- `tolerance::narrow` meets its contract. Assumes nothing.
-use Prim.Native.Nat.{_-_, _≤_}
 use borrow.Author.Needs.{needs}
 use lib.Dec.{le→leb, lit≤}
 use native.Mathlib.Nat.{le-trans}
 use lib.Ieee.{inFloat, ofBits}
 use Rattle.tolerance.specs.Tolerances.{narrowFits}
-use borrow.Author.Needs.{needs}
 use Rattle.tolerance.proofs.narrow.Statement.{statement}
 use Rattle.tolerance.proofs.narrow.Tie as tie
 

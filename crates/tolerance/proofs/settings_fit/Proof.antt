@@ -1,5 +1,4 @@
 -- `tolerance::settings_fit` meets its contract. Assumes nothing.
-use Prim.Native.Nat.{_-_}
 use mathlib.Core.Path.{_≡_, _∙_, sym}
 use mathlib.Core.Bool.{true}
 use borrow.Author.Needs.{needs}
@@ -9,7 +8,6 @@ use lib.Dec.{leb}
 use lib.Ieee.{le, ofBits}
 use Rattle.float_order.specs.Value.{zero32, one32}
 use lib.Ieee.Scale.{finite}
-use borrow.Author.Needs.{needs}
 use Rattle.tolerance.proofs.settings_fit.Statement.{statement}
 use Rattle.tolerance.proofs.settings_fit.Tie as tie
 

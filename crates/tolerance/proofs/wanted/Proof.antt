@@ -1,6 +1,4 @@
 -- `tolerance::wanted` meets its contract. Assumes nothing.
-use Prim.Native.Nat.{_-_}
-use borrow.Author.Needs.{needs}
 use borrow.Author.Needs.{needs}
 use Rattle.tolerance.proofs.wanted.Statement.{statement}
 use Rattle.tolerance.proofs.wanted.Tie as tie
