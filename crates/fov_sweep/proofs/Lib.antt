@@ -1,0 +1,5 @@
+pub mod Offsets
+pub mod Counting
+pub mod Writing
+pub mod Whole
+pub mod Answers

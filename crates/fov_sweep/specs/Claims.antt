@@ -1,0 +1,53 @@
+-- What is proved of the sweep; proofs/ has a proof of each under the name given beside it. Definitions only.
+use mathlib.Core.Path.{_≡_}
+use Prim.Native.Nat.{ℕ, _≤_, _<_}
+use mathlib.Core.Bool.{false, cond}
+use mathlib.Core.List.{List, [], _∷_}
+use lib.IntN.{negsuc}
+use lib.ListN.{length, take}
+use lib.Ieee.{Float, fin}
+use Rattle.float_order.specs.Value.{one32}
+use Rattle.tolerance.specs.declared.Tolerance.{Tolerance}
+use Rattle.tolerance.specs.declared.Tolerance.the-variants.{Given}
+use Rattle.fov_sweep.specs.Sweep.{sweepOf, sweepFits, listFits, sweptOf, laterOf}
+use Rattle.fov_sweep.specs.declared.Swept.{Swept}
+use Rattle.fov_sweep.specs.declared.Swept.the-variants.{Values, Refused}
+
+-- The bound on the offsets leaves nothing out: a list that fits the room is the same however many more offsets may be taken,
+-- and one that doesn't fit doesn't fit then: `more-offsets`.
+abbrev pub MoreOffsets : Type 0
+MoreOffsets = (k room : ℕ) (estimate : Float) (error : Tolerance) (step : Float) → room ≤ k
+    → (length (sweepOf room estimate error step) ≤ room → sweepOf k estimate error step ≡ sweepOf room estimate error step)
+    × (room < length (sweepOf room estimate error step) → room < length (sweepOf k estimate error step))
+
+-- document 01's answer to a sweep: a refusal's number, or the values
+pub data Answer : Type 0 where
+  refused : ℕ → Answer
+  values : List Float → Answer
+
+-- what the code's answer says, with the lent slice as it is afterwards
+abbrev pub said : Swept → List Float → Answer
+said (Values n) later = values (take n later)
+said (Refused n) later = refused n
+
+-- 12, then 13, then the values: `says-the-answer`
+abbrev pub SaysTheAnswer : Type 0
+SaysTheAnswer = (estimate : Float) (error : Tolerance) (step : Float) (before : List Float)
+    → said (sweptOf estimate error step (length before)) (laterOf estimate error step before)
+    ≡ cond (sweepFits estimate error step)
+    (cond (listFits estimate error step (length before)) (values (sweepOf (length before) estimate error step)) (refused 13))
+    (refused 12)
+
+abbrev half : Float
+half = fin false 1 (negsuc 0)
+
+abbrev quarter : Float
+quarter = fin false 1 (negsuc 1)
+
+-- Sweep 1, error 0.5, step 0.25: 1, 1.25, 0.75, 1.5, 0.5: `sweep-one`.
+abbrev pub SweepOne : Type 0
+SweepOne = sweepOf 5 one32 (Given half) quarter ≡ one32 ∷ fin false 5 (negsuc 1) ∷ fin false 3 (negsuc 1) ∷ fin false 3 (negsuc 0) ∷ half ∷ []
+
+-- Sweep 0.25, error 0.25, step 0.25: 0.25, 0.5: `sweep-quarter`.
+abbrev pub SweepQuarter : Type 0
+SweepQuarter = sweepOf 2 quarter (Given quarter) quarter ≡ quarter ∷ half ∷ []
