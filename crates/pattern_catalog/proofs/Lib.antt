@@ -1,0 +1,6 @@
+pub mod Ones
+pub mod Slots
+pub mod Parts
+pub mod Scan
+pub mod Passed
+pub mod Cases

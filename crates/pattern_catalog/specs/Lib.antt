@@ -1,0 +1,7 @@
+pub mod Blocks
+pub mod Answers
+pub mod SlotRead
+pub mod Opening
+pub mod Shortcuts
+pub mod Claims
+pub mod Cases

@@ -1,0 +1,29 @@
+-- What the code works with on the way to the questions' answers: each is proved to lead to them in proofs/. Definitions only.
+use Prim.Native.Nat.{ℕ, _*_}
+use mathlib.Core.Bool.{Bool}
+use mathlib.Core.List.{List}
+use lib.Dec.{ltb}
+use lib.Ieee.{Float}
+use Rattle.pattern_entry.specs.Ask.{ask, every}
+use Rattle.pattern_catalog.specs.Blocks.{onesIn, place}
+use Rattle.pattern_entry.specs.Entry.{bytesAt, entrySound}
+use Rattle.pattern_entry.specs.Shortcuts.{indicesBelow}
+use Rattle.pattern_catalog.specs.Opening.{rankRight}
+use Rattle.pattern_catalog.specs.declared.blocks.Ranked.{Ranked}
+use Rattle.pattern_catalog.specs.declared.opening.Ranks.{Ranks}
+
+-- the slot's place, where it is below the number of entries held
+unfoldable pub rankedAt : List ℕ → ℕ → ℕ → Ranked
+rankedAt words s held = ask (ltb (place words s) held) Ranked.Outside (Ranked.Inside (place words s))
+
+-- the ones of the first blocks, where their ranks are right
+unfoldable pub ranksRead : List ℕ → ℕ → Ranks
+ranksRead words blocks = ask (every blocks (rankRight words)) Ranks.Wrong (Ranks.Right (onesIn words 0 (blocks * 448)))
+
+-- whether the first n packed entries are sound
+unfoldable pub allSound : List ℕ → List Float → ℕ → Bool
+allSound packed stars n = every n (λ p. entrySound stars (bytesAt packed p))
+
+-- whether the indices of the first n packed entries are below count
+unfoldable pub allBelow : List ℕ → ℕ → ℕ → Bool
+allBelow packed count n = every n (λ p. indicesBelow count (bytesAt packed p))

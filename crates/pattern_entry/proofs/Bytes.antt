@@ -1,0 +1,43 @@
+-- Laws of an entry's 22 bytes. Assumes nothing.
+use Prim.Native.Nat.{ℕ, zero, suc, _+_, _-_, _*_, _≤_, _<_}
+use mathlib.Core.Path.{_≡_, refl, sym, ap, ap₂, _∙_}
+use mathlib.Core.Bool.{true}
+use mathlib.Core.List.{List, [], _∷_}
+use native.Mathlib.Omega.{arith}
+use native.Mathlib.Nat.{add-assoc}
+use borrow.Author.Tests.{leb-true}
+use lib.ListN.{length, getD, take, drop, length-take, length-drop}
+use lib.Seq.{getD-take, getD-drop}
+use Rattle.pattern_entry.specs.Entry.{bytesAt, inSection, halfAt, markOf}
+
+-- a byte past the end
+pub past-end : (s : List ℕ) (i : ℕ) → length s ≤ i → getD s i 0 ≡ 0
+past-end [] i h = refl
+past-end (x ∷ s) zero h = absurd (omega arith)
+past-end (x ∷ s) (suc i) h = past-end s i (omega arith)
+
+-- the part that the code cuts
+pub part-is : (packed : List ℕ) (p : ℕ) → take (p * 22 + 22 - p * 22) (drop (p * 22) packed) ≡ bytesAt packed p
+unfolding bytesAt
+part-is packed p = let e : p * 22 + 22 - p * 22 ≡ 22 = omega arith in ap (λ (n : ℕ). take n (drop (p * 22) packed)) e
+
+-- an entry inside the section is whole
+pub whole-at : (packed : List ℕ) (p : ℕ) → p * 22 + 22 ≤ length packed → length (bytesAt packed p) ≡ 22
+unfolding bytesAt
+whole-at packed p h = simp (length-take, length-drop) (omega arith)
+
+pub section-whole : (packed : List ℕ) (p : ℕ) → inSection packed p ≡ true → length (bytesAt packed p) ≡ 22
+unfolding inSection
+section-whole packed p h = whole-at packed p (leb-true (p * 22 + 22) (length packed) h)
+
+-- its bytes are the section's
+pub byte-at : (packed : List ℕ) (p k : ℕ) → k < 22 → getD (bytesAt packed p) k 0 ≡ getD packed (p * 22 + k) 0
+unfolding bytesAt
+byte-at packed p k h = rw (getD-take, getD-drop)
+
+-- and so is its mark
+pub mark-is : (packed : List ℕ) (p : ℕ) → halfAt packed (p * 22 + 20) ≡ markOf (bytesAt packed p)
+mark-is packed p =
+    let a : getD (bytesAt packed p) 20 0 ≡ getD packed (p * 22 + 20) 0 = byte-at packed p 20 (omega arith) in
+    let b : getD (bytesAt packed p) 21 0 ≡ getD packed (p * 22 + 20 + 1) 0 = byte-at packed p 21 (omega arith) ∙ ap (λ (i : ℕ). getD packed i 0) (sym (add-assoc (p * 22) 20 1)) in
+    ap₂ (λ (x y : ℕ). x + y * 0x100) (sym a) (sym b)

@@ -1,0 +1,5 @@
+pub mod Every
+pub mod Bytes
+pub mod Units
+pub mod StarSlice
+pub mod Sound

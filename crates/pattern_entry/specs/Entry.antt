@@ -1,0 +1,48 @@
+-- The packed entries. Definitions only. Document 01: "The bytes are four star indices (u32), largest edge (f32), mark (u16), little-endian."
+-- A byte past the end of a list reads as 0.
+use Prim.Native.Nat.{ℕ, _+_, _*_}
+use mathlib.Core.Bool.{Bool, _&&_}
+use mathlib.Core.List.{List, [], _∷_}
+use lib.Dec.{leb, eqb}
+use lib.ListN.{length, getD, take, drop}
+use lib.Ieee.{Float, binary32, ofBits}
+use Rattle.float.specs.Bytes.{wordOf}
+use Rattle.pattern_entry.specs.Stars.{starSound}
+use Rattle.pattern_entry.specs.declared.PatternEntry.{PatternEntry}
+use Rattle.pattern_entry.specs.declared.StarIndex.{StarIndex}
+
+-- the 22 bytes of the entry at a place of the packed section
+unfoldable pub bytesAt : List ℕ → ℕ → List ℕ
+bytesAt packed p = take 22 (drop (p * 22) packed)
+
+-- Question 9 for the section: "Does the entry read lie inside the packed section"
+unfoldable pub inSection : List ℕ → ℕ → Bool
+inSection packed p = leb (p * 22 + 22) (length packed)
+
+-- the u32 and the u16 that begin at a byte
+abbrev pub wordAt : List ℕ → ℕ → ℕ
+wordAt e at = wordOf (getD e at 0 ∷ getD e (at + 1) 0 ∷ getD e (at + 2) 0 ∷ getD e (at + 3) 0 ∷ [])
+
+abbrev pub halfAt : List ℕ → ℕ → ℕ
+halfAt e at = getD e at 0 + getD e (at + 1) 0 * 0x100
+
+abbrev pub star : ℕ → StarIndex
+star n = record { 0 = n }
+
+-- the mark: the last two bytes
+abbrev pub markOf : List ℕ → ℕ
+markOf e = halfAt e 20
+
+-- the entry that the bytes hold; the edge may be any pattern, a NaN's too
+abbrev pub entryRead : List ℕ → PatternEntry
+entryRead e = record {
+  stars = star (wordAt e 0) ∷ star (wordAt e 4) ∷ star (wordAt e 8) ∷ star (wordAt e 12) ∷ [];
+  edge = ofBits binary32 (wordAt e 16);
+  mark = markOf e;
+}
+
+-- Question 9 for an entry's bytes: they are whole, and each of the four stars is sound. An empty part isn't.
+unfoldable pub entrySound : List Float → List ℕ → Bool
+entrySound stars e =
+    eqb (length e) 22
+    && (starSound stars (wordAt e 0) && (starSound stars (wordAt e 4) && (starSound stars (wordAt e 8) && starSound stars (wordAt e 12))))

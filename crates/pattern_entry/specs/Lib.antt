@@ -1,0 +1,5 @@
+pub mod Ask
+pub mod Stars
+pub mod Entry
+pub mod Shortcuts
+pub mod Claims

@@ -1,0 +1,127 @@
+// The packed entries: 22 bytes each, four star indices, largest edge and mark.
+ghost use mathlib.Core.Path.{_≡_};
+ghost use Prim.Native.Nat.{_+_, _*_, _≤_, _<_};
+ghost use lib.ListN.{length, getD};
+ghost use Rattle.pattern_entry.specs.Entry.{wordAt, halfAt, markOf, entryRead, bytesAt, entrySound};
+ghost use Rattle.pattern_entry.specs.Shortcuts.{indicesBelow};
+use crate::PatternEntry;
+use crate::StarIndex;
+use crate::stars::star_sound;
+
+// A byte, 0 past the end.
+fn byte(e: &[u8], i: usize) -> u8
+    ensures { λ r. ⌜ r ≡ getD (now (e .entry)) i 0 ⌝ }
+{
+    if i < e.len() { e[i] } else { 0 }
+}
+
+// The u32 that begins at a byte; where all four bytes are there, one test suffices.
+fn word(e: &[u8], at: usize) -> u32
+    requires { ⌜ at < 22 ⌝ }
+    ensures { λ r. ⌜ r ≡ wordAt (now (e .entry)) at ⌝ }
+{
+    if at + 3 < e.len() {
+        return float::u32_from_le_bytes([e[at], e[at + 1], e[at + 2], e[at + 3]]);
+    }
+    float::u32_from_le_bytes([
+        byte(e, at),
+        byte(e, at + 1),
+        byte(e, at + 2),
+        byte(e, at + 3),
+    ])
+}
+
+fn wide(b: u8) -> u16
+    ensures { λ r. ⌜ (r ≡ b) × (r < 256) ⌝ }
+{
+    b as u16
+}
+
+// The u16 that begins at a byte.
+fn half(e: &[u8], at: usize) -> u16
+    requires { ⌜ at < 22 ⌝ }
+    ensures { λ r. ⌜ r ≡ halfAt (now (e .entry)) at ⌝ }
+{
+    wide(byte(e, at)) + wide(byte(e, at + 1)) * 0x100
+}
+
+// The entry that the bytes hold; the edge may be a NaN.
+pub fn read_packed(e: &[u8]) -> PatternEntry
+    ensures { λ r. ⌜ r ≡ entryRead (now (e .entry)) ⌝ }
+{
+    let a = word(e, 0);
+    let b = word(e, 4);
+    let c = word(e, 8);
+    let d = word(e, 12);
+    let edge = float::from_bits(word(e, 16));
+    let mark = half(e, 20);
+    PatternEntry {
+        stars: [StarIndex(a), StarIndex(b), StarIndex(c), StarIndex(d)],
+        edge,
+        mark,
+    }
+}
+
+// Question 9 for an entry's bytes: whole, and its four stars sound.
+pub fn entry_sound(stars: &[f32], e: &[u8]) -> bool
+    ensures { λ r. ⌜ r ≡ entrySound (now (stars .entry)) (now (e .entry)) ⌝ }
+{
+    if e.len() != 22 {
+        return false;
+    }
+    if !star_sound(stars, StarIndex(word(e, 0))) {
+        return false;
+    }
+    if !star_sound(stars, StarIndex(word(e, 4))) {
+        return false;
+    }
+    if !star_sound(stars, StarIndex(word(e, 8))) {
+        return false;
+    }
+    star_sound(stars, StarIndex(word(e, 12)))
+}
+
+// Whether the four star indices of an entry's bytes are below n.
+fn indices_below(e: &[u8], n: u32) -> bool
+    ensures { λ r. ⌜ r ≡ indicesBelow n (now (e .entry)) ⌝ }
+{
+    if word(e, 0) >= n {
+        return false;
+    }
+    if word(e, 4) >= n {
+        return false;
+    }
+    if word(e, 8) >= n {
+        return false;
+    }
+    word(e, 12) < n
+}
+
+// The mark of the entry at a place inside the section.
+pub fn mark_at(packed: &[u8], place: u64) -> u16
+    requires { ⌜ place * 22 + 22 ≤ length (now packed) ⌝ }
+    ensures { λ r. ⌜ r ≡ markOf (bytesAt (now (packed .entry)) place) ⌝ }
+{
+    let at = place as usize * 22 + 20;
+    wide(packed[at]) + wide(packed[at + 1]) * 0x100
+}
+
+// Question 9 for the entry at a place inside the section.
+pub fn entry_sound_at(stars: &[f32], packed: &[u8], place: u64) -> bool
+    requires { ⌜ place * 22 + 22 ≤ length (now packed) ⌝ }
+    ensures { λ r. ⌜ r ≡ entrySound (now (stars .entry)) (bytesAt (now (packed .entry)) place) ⌝ }
+{
+    let a = place as usize * 22;
+    let e = a + 22;
+    entry_sound(stars, &packed[a..e])
+}
+
+// Whether the star indices of the entry at a place inside the section are below n.
+pub fn indices_below_at(packed: &[u8], place: u64, n: u32) -> bool
+    requires { ⌜ place * 22 + 22 ≤ length (now packed) ⌝ }
+    ensures { λ r. ⌜ r ≡ indicesBelow n (bytesAt (now (packed .entry)) place) ⌝ }
+{
+    let a = place as usize * 22;
+    let e = a + 22;
+    indices_below(&packed[a..e], n)
+}
