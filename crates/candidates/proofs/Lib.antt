@@ -1,0 +1,5 @@
+pub mod Fields
+pub mod Nearness
+pub mod Testing
+pub mod Hits
+pub mod Held
