@@ -1,0 +1,69 @@
+-- What `complete` returns says document 01's answer, and when it is done. Assumes nothing.
+use mathlib.Core.Path.{_≡_, refl}
+use Prim.Native.Nat.{ℕ}
+use native.Mathlib.Omega.{arith}
+use mathlib.Core.Bool.{Bool, true, false}
+use mathlib.Core.List.{List}
+use lib.Ieee.{Float}
+use Rattle.pattern.specs.CentroidOrder.{inOrder}
+use Rattle.pattern_entry.specs.Ask.{ask}
+use Rattle.preprocess.specs.Questions.{centroidsFit, coordinatesFit, orderFits}
+use Rattle.passes.specs.Passes.{passesFit}
+use Rattle.pattern_entry.specs.Stars.{starsFit}
+use Rattle.candidates.specs.declared.Candidate.{Candidate}
+use Rattle.candidates.specs.Tests.{starsOf}
+use Rattle.complete.specs.declared.Completion.{Completion}
+use Rattle.complete.specs.Answers.{Answer, vectors, refused, completedAs, completedSays}
+use Rattle.complete.specs.Completing.{candidateFits, fourSound, scaleOf, imageVectors, matchedOf, lastAsked, completing, completedOf}
+use Rattle.complete.specs.Claims.{CompletedSays, Asked, DoneExactly}
+
+-- an answer that is told truly, through a question
+Told : Answer → Type 0
+Told a = completedSays (completedAs a) ≡ a
+
+told-ask : (t : Bool) (n : ℕ) (a : Answer) → Told a → Told (ask t (refused n) a)
+unfolding Told
+told-ask true n a h = h
+told-ask false n a h = refl
+
+told-vectors : (v : List (List Float)) (stars : List Float) (candidate : Candidate) → Told (vectors (matchedOf v) (starsOf stars (candidate .stars)))
+unfolding Told matchedOf inOrder starsOf
+told-vectors v stars candidate = refl
+
+pub completed-says : CompletedSays
+unfolding completedOf completing lastAsked Told
+completed-says centroids order passes stars candidate scale =
+    told-ask (centroidsFit centroids) 1 _
+    (told-ask (coordinatesFit centroids) 2 _
+    (told-ask (orderFits order centroids) 3 _
+    (told-ask (passesFit passes) 5 _
+    (told-ask (starsFit stars) 7 _
+    (told-ask (candidateFits order passes candidate scale) 14 _
+    (told-ask (fourSound stars (candidate .stars)) 9 _
+    (told-vectors (imageVectors centroids order (candidate .places) (scaleOf passes candidate scale)) stars candidate)))))))
+
+-- a yes to a question whose later ones are done
+yes : (t : Bool) (n : ℕ) (a : Answer) → completedAs (ask t (refused n) a) .answer ≡ Completion.Done → (t ≡ true) × (completedAs a .answer ≡ Completion.Done)
+yes true n a h = (refl, h)
+yes false n a h = absurd (let z : _≡_ {A = ℕ} 0 1 = cc in omega arith)
+
+module _ (centroids : List Float) (order : List ℕ) (passes stars : List Float) (candidate : Candidate) (scale : Float) where
+  done-asked : completedOf centroids order passes stars candidate scale .answer ≡ Completion.Done → Asked centroids order passes stars candidate scale
+  unfolding completedOf completing lastAsked
+  done-asked h =
+      let y1 = yes (centroidsFit centroids) 1 _ h in
+      let y2 = yes (coordinatesFit centroids) 2 _ (y1 .1) in
+      let y3 = yes (orderFits order centroids) 3 _ (y2 .1) in
+      let y5 = yes (passesFit passes) 5 _ (y3 .1) in
+      let y7 = yes (starsFit stars) 7 _ (y5 .1) in
+      let y14 = yes (candidateFits order passes candidate scale) 14 _ (y7 .1) in
+      let y9 = yes (fourSound stars (candidate .stars)) 9 _ (y14 .1) in
+      record { one = y1 .0; two = y2 .0; three = y3 .0; five = y5 .0; seven = y7 .0; fourteen = y14 .0; nine = y9 .0 }
+
+  asked-done : Asked centroids order passes stars candidate scale → completedOf centroids order passes stars candidate scale .answer ≡ Completion.Done
+  unfolding completedOf completing lastAsked
+  asked-done a = rw (a .one, a .two, a .three, a .five, a .seven, a .fourteen, a .nine)
+
+pub done-exactly : DoneExactly
+done-exactly centroids order passes stars candidate scale =
+    (done-asked centroids order passes stars candidate scale, asked-done centroids order passes stars candidate scale)

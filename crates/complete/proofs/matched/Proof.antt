@@ -1,0 +1,20 @@
+-- `complete::matched` meets its contract. Assumes nothing.
+use Rattle.pattern.proofs.Order.{order-positions}
+use Rattle.complete.specs.Completing.{matchedOf}
+use borrow.Author.Needs.{needs}
+use Rattle.complete.proofs.matched.Statement.{statement}
+use Rattle.complete.proofs.matched.Tie as tie
+
+sort-pattern-by-centroid-distance-requires : tie.Need-sort-pattern-by-centroid-distance-requires
+sort-pattern-by-centroid-distance-requires c κs = search needs
+
+in-order-requires : tie.Need-in-order-requires
+in-order-requires c κs = rw (c .sort-pattern-by-centroid-distance .ensures) (order-positions _)
+
+returns : tie.Need-returns
+unfolding matchedOf
+returns c = cc
+
+pub matched-spec : {M : Type 1} → statement M
+matched-spec =
+    tie.close (tie.spec sort-pattern-by-centroid-distance-requires in-order-requires returns)

@@ -1,0 +1,13 @@
+-- `complete::refused` meets its contract. Assumes nothing.
+use borrow.Author.Needs.{needs}
+use Rattle.complete.proofs.refused.Statement.{statement}
+use Rattle.complete.proofs.refused.Tie as tie
+
+rows-requires : tie.Need-rows-requires
+rows-requires c κs = search needs
+
+returns : tie.Need-returns
+returns c = cc
+
+pub refused-spec : {M : Type 1} → statement M
+refused-spec = tie.close (tie.spec rows-requires returns)

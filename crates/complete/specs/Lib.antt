@@ -1,0 +1,4 @@
+pub mod Answers
+pub mod Completing
+pub mod Held
+pub mod Claims
