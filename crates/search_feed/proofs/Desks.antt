@@ -1,0 +1,99 @@
+-- The desk: laid for a pass, laid for a combination, left as it lies. Assumes nothing.
+use mathlib.Core.Path.{_≡_, refl, ap, _∙_, subst}
+use Prim.Native.Nat.{ℕ, _/_, _<_}
+use native.Mathlib.Omega.{arith}
+use mathlib.Core.Bool.{Bool, true, false, _&&_}
+use mathlib.Core.List.{List}
+use lib.Dec.{eqb}
+use lib.ListN.{length}
+use lib.Ieee.{Float}
+use borrow.Author.Tests.{eqb-true, eq-eqb, ne-eqb}
+use Rattle.combinations.specs.declared.Four.{Four}
+use Rattle.combinations.specs.Fours.{sameFour}
+use Rattle.passes.specs.declared.Pass.{Pass}
+use Rattle.passes.specs.Passes.{passAt}
+use Rattle.thinning.specs.Thinning.{spotAt, Kept}
+use Rattle.pattern_keys.specs.Ranges.{keysFor}
+use Rattle.pattern_keys.specs.Steps.{Hashed}
+use Rattle.candidates.specs.declared.Image.{Image}
+use Rattle.search_feed.specs.Data.{Frame}
+use Rattle.search_feed.specs.Image.{toleranceIn, keysIn, hashIn, imageOf, keptPlaces, directionsOf}
+use Rattle.search_feed.specs.Desk.{PassHeld, FourHeld, PassDesk, FourDesk, ForPass, ForFour, Prepared}
+use Rattle.search_feed.specs.declared.Held.{Held}
+use Rattle.search_feed.specs.declared.SearchConfig.{SearchConfig}
+
+-- ---- two combinations, position by position
+module _ (q p : Four) where
+  pub differ-a : (q .a ≡ p .a → ⊥) → false ≡ sameFour q p
+  unfolding sameFour
+  differ-a h = rw (ne-eqb _ _ h)
+
+  module _ (a : q .a ≡ p .a) where
+    pub differ-b : (q .b ≡ p .b → ⊥) → false ≡ sameFour q p
+    unfolding sameFour
+    differ-b h = rw (eq-eqb _ _ a, ne-eqb _ _ h)
+
+    module _ (b : q .b ≡ p .b) where
+      pub differ-c : (q .c ≡ p .c → ⊥) → false ≡ sameFour q p
+      unfolding sameFour
+      differ-c h = rw (eq-eqb _ _ a, eq-eqb _ _ b, ne-eqb _ _ h)
+
+      pub by-d : q .c ≡ p .c → eqb (q .d) (p .d) ≡ sameFour q p
+      unfolding sameFour
+      by-d c = rw (eq-eqb _ _ a, eq-eqb _ _ b, eq-eqb _ _ c)
+
+both : (a b : Bool) → a && b ≡ true → (a ≡ true) × (b ≡ true)
+both true b h = (refl, h)
+both false b h = absurd (let z : _≡_ {A = ℕ} 0 1 = cc in omega arith)
+
+pub same-is : (q p : Four) → sameFour q p ≡ true → q ≡ p
+unfolding sameFour
+same-is q p h =
+    let x = both (eqb (q .a) (p .a)) _ h in
+    let y = both (eqb (q .b) (p .b)) _ (x .1) in
+    let z = both (eqb (q .c) (p .c)) (eqb (q .d) (p .d)) (y .1) in
+    let a = eqb-true (q .a) (p .a) (x .0) in
+    let b = eqb-true (q .b) (p .b) (y .0) in
+    let c = eqb-true (q .c) (p .c) (z .0) in
+    let d = eqb-true (q .d) (p .d) (z .1) in
+    ap (λ x. record { a = x; b = q .b; c = q .c; d = q .d }) a
+    ∙ ap (λ x. record { a = p .a; b = x; c = q .c; d = q .d }) b
+    ∙ ap (λ x. record { a = p .a; b = p .b; c = x; d = q .d }) c
+    ∙ ap (λ x. record { a = p .a; b = p .b; c = p .c; d = x }) d
+
+-- ---- a pass
+pub pass-again : (F : Frame) (h : Held) (i : ℕ) (places : List ℕ) (dirs : List (List Float)) → PassDesk F h places dirs → h .passed ≡ true → h .pass ≡ i → ForPass F i h places dirs
+pass-again F h i places dirs d y e =
+    let p = rw y at (d .pass) in
+    record {
+      yes = y;
+      is = e;
+      inside = subst (λ k. k < length (F .passes) / 3) e (p .0);
+      held = subst (λ k. PassHeld F k (h .kept) places dirs) e (p .1);
+      places-long = d .places-long;
+      dirs-long = d .dirs-long;
+    }
+
+pub pass-thinned : (F : Frame) (i r : ℕ) (places : List ℕ) (dirs : List (List Float)) (p : Pass) → p ≡ passAt (F .passes) i → Kept (p .cosine) (spotAt (F .centroids) (F .order) (p .scale)) (length (F .order)) (F .config .checking) r places dirs → PassHeld F i r places dirs
+unfolding keptPlaces
+pass-thinned F i r places dirs p e k = let h = rw e at k in record { count = h .count; places-are = h .places-are; dirs-are = h .dirs-are }
+
+-- ---- a combination
+pub prepared : (c : SearchConfig) (v : List (List Float)) (n : ℕ) (image : Image) (e : Float) (hashes : List ℕ) → image ≡ imageOf v → e ≡ toleranceIn c → Hashed hashes n (keysFor (image .ratios) e (c .bins)) (c .bins) → Prepared c v n image hashes
+unfolding keysIn hashIn
+prepared c v n image e hashes m t h =
+    let k = rw (m, t) at h in
+    record { image-is = m; count = k .count; hash = k .each; hashes-long = k .long }
+
+pub four-again : (F : Frame) (h : Held) (q : Four) (hashes : List ℕ) → FourDesk F h hashes → h .foured ≡ true → h .four ≡ q → ForFour F (h .pass) q h hashes
+four-again F h q hashes d y e =
+    let f = rw y at (d .four) in
+    record { yes = y; is = e; held = subst (λ k. FourHeld F (h .pass) k (h .keys) (h .image) hashes) e f; hashes-long = d .hashes-long }
+
+pub four-prepared : (F : Frame) (i : ℕ) (q : Four) (c : SearchConfig) (v : List (List Float)) (n : ℕ) (image : Image) (hashes : List ℕ) → F .config ≡ c → directionsOf F i q ≡ v → Prepared c v n image hashes → FourHeld F i q n image hashes
+four-prepared F i q c v n image hashes e d p =
+    record {
+      image-is = rw d (p .image-is);
+      count = rw (d, e) (p .count);
+      hash = λ k l. rw (d, e) (p .hash k l);
+    }

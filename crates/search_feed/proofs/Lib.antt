@@ -1,0 +1,5 @@
+pub mod Spots
+pub mod Limits
+pub mod Sound
+pub mod Desks
+pub mod Looks

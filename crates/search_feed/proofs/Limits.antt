@@ -1,0 +1,47 @@
+-- Past questions 1 to 6: every combination has a key, and all counts lie within their limits. Assumes nothing.
+use mathlib.Core.Path.{_≡_}
+use Prim.Native.Nat.{ℕ, _/_, _≤_, _<_}
+use native.Mathlib.Omega.{arith}
+use mathlib.Core.Bool.{true}
+use lib.ListN.{length}
+use Rattle.combinations.specs.declared.Four.{Four}
+use Rattle.combinations.specs.Fours.{Rising}
+use Rattle.passes.proofs.Laws.{passes-fitting}
+use Rattle.tolerance.specs.Claims.{Fitting}
+use Rattle.tolerance.proofs.Settings.{settings-fitting}
+use Rattle.pattern_catalog.proofs.Slots.{fits-few}
+use Rattle.pattern_keys.specs.Ranges.{Tolerance}
+use Rattle.pattern_keys.proofs.Ranges.{keys-count}
+use Rattle.search_feed.specs.Data.{Frame}
+use Rattle.search_feed.specs.Image.{toleranceIn, keysIn, keptPlaces, imageAt}
+use Rattle.search_feed.specs.Feed.{feed}
+use Rattle.search_feed.specs.declared.SearchConfig.{SearchConfig}
+use Rattle.search_feed.specs.Claims.{settingsOk, Asked5, EveryFourKeyed, WithinLimits}
+use Rattle.search_feed.proofs.Spots.{kept-few, image-ratios}
+
+abbrev pub fitting : (c : SearchConfig) → settingsOk c ≡ true → Fitting (c .bins) (c .checking) (c .error) (c .radius) (c .matching) (c .fov)
+fitting c h = settings-fitting (c .bins) (c .checking) (c .error) (c .radius) (c .matching) (c .fov) h
+
+pub tolerance-of : (c : SearchConfig) → settingsOk c ≡ true → Tolerance (toleranceIn c) (c .bins)
+tolerance-of c h =
+    let n = fitting c h .narrow in
+    record { e-finite = n .held; e-low = n .low; some = n .some-bins; few = n .few-bins; narrow = n .product }
+
+module _ (F : Frame) (a : Asked5 F) (i : ℕ) (h : i < length (F .passes) / 3) (q : Four) (r : Rising (length (keptPlaces F i)) q) where
+  pub keys-counted : (0 < length (keysIn (F .config) (imageAt F i q))) × (length (keysIn (F .config) (imageAt F i q)) ≤ 1024)
+  unfolding keysIn
+  keys-counted = keys-count _ (toleranceIn (F .config)) (F .config .bins) (image-ratios F a i h q r) (tolerance-of (F .config) (a .four))
+
+pub every-four-keyed : EveryFourKeyed
+unfolding feed
+every-four-keyed D a i q f = keys-counted (D .frame) a i (f .pass) q (f .rising) .0
+
+pub within-limits : WithinLimits
+unfolding feed
+within-limits D a t =
+    record {
+      passes = passes-fitting (D .frame .passes) (a .five) .few;
+      kept = λ i p. omega (arith, kept-few (D .frame) i, fitting (D .frame .config) (a .four) .few-stars);
+      keys = λ i q f. keys-counted (D .frame) a i (f .pass) q (f .rising) .1;
+      slots = fits-few (D .slots) (D .words) t;
+    }

@@ -1,0 +1,102 @@
+-- One read, case by case. Assumes nothing.
+use mathlib.Core.Path.{_≡_, refl, sym, ap, _∙_, subst}
+use Prim.Native.Nat.{ℕ, _+_, _*_, _%_, _≤_, _<_}
+use native.Mathlib.Omega.{arith}
+use native.Mathlib.Nat.{mul-le-mul, mod-lt, mod-eq-of-lt}
+use mathlib.Core.Bool.{Bool, true, false}
+use mathlib.Core.List.{List}
+use lib.ListN.{length, take, drop, length-take, length-drop}
+use lib.Ieee.{Float}
+use borrow.Author.Tests.{leb-false, ne-eqb}
+use Rattle.preprocess.specs.declared.Place.{Place}
+use Rattle.pattern.specs.Key.{homeOf, markOf}
+use Rattle.pattern_entry.specs.Ask.{ask}
+use Rattle.pattern_entry.specs.Entry.{bytesAt, inSection, entryRead, entrySound}
+use Rattle.pattern_entry.specs.declared.PatternEntry.{PatternEntry}
+use Rattle.pattern_catalog.specs.Blocks.{filled, place}
+use Rattle.pattern_catalog.specs.Answers.{filledAt, empty, refused, foundSays}
+use Rattle.pattern_catalog.specs.SlotRead.{slotIn}
+use Rattle.pattern_catalog.specs.declared.Found.{Found}
+use Rattle.pattern_catalog.proofs.Slots.{in-place}
+use Rattle.candidates.specs.Tests.{testOf}
+use Rattle.candidates.specs.declared.Image.{Image}
+use Rattle.candidates.specs.declared.Tested.{Tested}
+use Rattle.search_feed.specs.Image.{toleranceIn}
+use Rattle.search_feed.specs.Look.{blank, lookedOf, entryLook, lookIn}
+use Rattle.search_feed.specs.declared.SearchConfig.{SearchConfig}
+use Rattle.search_feed.specs.declared.Sight.{Sight}
+use Rattle.search_feed.specs.declared.Seen.the-variants.{Empty, Unsound}
+
+-- ---- the slot of a probe
+pub home-below : (hash slots : ℕ) → 0 < slots → homeOf hash slots < slots
+unfolding homeOf
+home-below hash slots p = mod-lt _ p
+
+pub square-small : (c slots : ℕ) → slots ≤ 16777216 → c < slots → c * c ≤ 16777216 * 16777216
+square-small c slots f l = mul-le-mul (let p : c ≤ 16777216 = omega arith in p) (let p : c ≤ 16777216 = omega arith in p)
+
+module _ (h c slots s : ℕ) (e : s ≡ h) (p : 0 < slots) where
+  pub probe-below : s + c * c < slots → (s + c * c ≡ (h + c * c) % slots) × (s + c * c < slots)
+  probe-below l = (ap (_+ c * c) e ∙ sym (mod-eq-of-lt (subst (λ x. x + c * c < slots) e l)), l)
+
+  pub probe-past : ((s + c * c) % slots ≡ (h + c * c) % slots) × ((s + c * c) % slots < slots)
+  probe-past = (ap (λ x. (x + c * c) % slots) e, mod-lt (s + c * c) p)
+
+-- ---- a sound entry or not
+module _ (e : List ℕ) (slot hash : ℕ) (places : List Place) (pass : ℕ) (image : Image) (c : SearchConfig) (field : Float) (stars : List Float) (x : Sight) where
+  pub entry-unsound : entrySound stars e ≡ false → x ≡ blank Unsound → x ≡ entryLook e slot hash places pass image c field stars
+  unfolding entryLook
+  entry-unsound h xe = xe ∙ rw h
+
+  pub entry-tested : entrySound stars e ≡ true → (r : PatternEntry) → r ≡ entryRead e → (m : ℕ) → m ≡ markOf hash → (t : Float) → t ≡ toleranceIn c → (u : Tested) → u ≡ testOf r m stars image t field (c .fov) → x ≡ lookedOf u pass places slot (r .stars) field (c .radius) → x ≡ entryLook e slot hash places pass image c field stars
+  unfolding entryLook
+  entry-tested h r re m me t te u ue xe = xe ∙ rw (h, ue, re, me, te)
+
+-- ---- the slot, by what `find_in` says
+module _ (words packed : List ℕ) (s : ℕ) where
+  is-empty : slotIn words packed s ≡ empty → filled words s ≡ false
+  unfolding slotIn
+  is-empty h = go (filled words s) (inSection packed (place words s)) h
+    where
+      go : (c d : Bool) → ask c empty (ask d (refused 9) (filledAt (place words s))) ≡ empty → c ≡ false
+      go false d e = refl
+      go true false e = absurd (let z : _≡_ {A = ℕ} 0 1 = cc in omega arith)
+      go true true e = absurd (let z : _≡_ {A = ℕ} 0 1 = cc in omega arith)
+
+  is-refused : (n : ℕ) → slotIn words packed s ≡ refused n → (filled words s ≡ true) × (inSection packed (place words s) ≡ false)
+  unfolding slotIn
+  is-refused n h = go (filled words s) (inSection packed (place words s)) h
+    where
+      go : (c d : Bool) → ask c empty (ask d (refused 9) (filledAt (place words s))) ≡ refused n → (c ≡ true) × (d ≡ false)
+      go false d e = absurd (let z : _≡_ {A = ℕ} 0 1 = cc in omega arith)
+      go true false e = (refl, refl)
+      go true true e = absurd (let z : _≡_ {A = ℕ} 0 1 = cc in omega arith)
+
+outside-short : (packed : List ℕ) (p : ℕ) (stars : List Float) → inSection packed p ≡ false → entrySound stars (bytesAt packed p) ≡ false
+unfolding inSection bytesAt entrySound
+outside-short packed p stars h =
+    let l = leb-false (p * 22 + 22) (length packed) h in
+    rw (ne-eqb (length (take 22 (drop (p * 22) packed))) 22 (λ e. omega (arith, length-take 22 (drop (p * 22) packed), length-drop (p * 22) packed)))
+
+module _ (words packed : List ℕ) (slot hash : ℕ) (places : List Place) (pass : ℕ) (image : Image) (c : SearchConfig) (field : Float) (stars : List Float) (f : Found) (fe : foundSays f ≡ slotIn words packed slot) (x : Sight) where
+  abbrev there : Sight
+  there = lookIn words packed slot hash places pass image c field stars
+
+  pub look-empty : f ≡ Found.Empty → x ≡ blank Empty → x ≡ there
+  unfolding lookIn
+  look-empty e xe = xe ∙ rw (is-empty words packed slot (sym fe ∙ ap foundSays e))
+
+  pub look-refused : (n : ℕ) → f ≡ Found.Refused n → x ≡ blank Unsound → x ≡ there
+  unfolding lookIn entryLook
+  look-refused n e xe =
+      let r = is-refused words packed slot n (sym fe ∙ ap foundSays e) in
+      xe ∙ rw (r .0, outside-short packed (place words slot) stars (r .1))
+
+  pub look-inside : (p : ℕ) → f ≡ Found.At p → p * 22 + 22 ≤ length packed
+  look-inside p e = in-place words packed slot p (sym fe ∙ ap foundSays e) .2
+
+  pub look-at : (p : ℕ) → f ≡ Found.At p → x ≡ entryLook (bytesAt packed p) slot hash places pass image c field stars → x ≡ there
+  unfolding lookIn
+  look-at p e xe =
+      let r = in-place words packed slot p (sym fe ∙ ap foundSays e) in
+      xe ∙ rw (r .0, r .1)

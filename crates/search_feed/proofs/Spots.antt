@@ -1,0 +1,116 @@
+-- The kept spots of a pass, past questions 1 to 5: their places lie in the brightness list, and their directions give edges and ratios. Assumes nothing.
+use mathlib.Core.Path.{_≡_, refl, sym, ap, _∙_}
+use Prim.Native.Nat.{ℕ, zero, suc, _/_, _≤_, _<_}
+use native.Mathlib.Omega.{arith}
+use mathlib.Core.Bool.{Bool, true, false, cond, _&&_}
+use mathlib.Core.List.{List, [], _∷_, map}
+use lib.IntN.{pos}
+use lib.ListN.{length, getD, take, length-take}
+use lib.Seq.{getD-take}
+use lib.Ieee.{Float, fin, ofBits, le, lt}
+use Rattle.float_order.specs.Value.{zero32}
+use Rattle.float_order.specs.Ratios.{Ratios}
+use Rattle.float_order.proofs.Order.{holds}
+use Rattle.float_order.proofs.Intervals.{in-wider}
+use Rattle.combinations.specs.declared.Four.{Four}
+use Rattle.combinations.specs.Fours.{Rising}
+use Rattle.combinations.specs.Lists.{All}
+use Rattle.combinations.proofs.Lists.{all-append, all-take}
+use Rattle.preprocess.specs.Claims.{Scale, UnitVector}
+use Rattle.preprocess.proofs.Orders.{places-have-centroids}
+use Rattle.preprocess.proofs.Units.{centroid-vectors}
+use Rattle.passes.specs.Passes.{scaleFits, passAt}
+use Rattle.passes.proofs.Laws.{passes-fitting}
+use Rattle.thinning.specs.Thinning.{crowded, thinned, keptOf}
+use Rattle.pattern.specs.Directions.{Small, Direction, Directions}
+use Rattle.pattern.proofs.Edges.{directions-ratios}
+use Rattle.search_feed.specs.Data.{Frame}
+use Rattle.search_feed.specs.Image.{spotOf, keptPlaces, placeAt, directionsOf, fourOf, imageOf}
+use Rattle.search_feed.specs.Claims.{Asked5}
+
+-- ---- kept places are places
+thinned-below : (c : Float) (spot : ℕ → List Float) (n m : ℕ) → n ≤ m → All (λ p. p < m) (thinned c spot n)
+unfolding thinned
+thinned-below c spot zero m h = tt
+thinned-below c spot (suc n) m h = all-append (λ p. p < m) (thinned c spot n) _ (thinned-below c spot n m (omega arith)) (by (crowded c (spot n) (map spot (thinned c spot n))))
+  where
+    by : (b : Bool) → All (λ p. p < m) (cond b [] (n ∷ []))
+    by true = tt
+    by false = (omega arith, tt)
+
+all-at : {A : Type 0} (P : A → Type 0) (xs : List A) (d : A) (i : ℕ) → All P xs → i < length xs → P (getD xs i d)
+all-at P [] d i h l = absurd (omega arith)
+all-at P (x ∷ xs) d zero h l = h .0
+all-at P (x ∷ xs) d (suc i) h l = all-at P xs d i (h .1) (omega arith)
+
+pub place-below : (F : Frame) (i x : ℕ) → x < length (keptPlaces F i) → placeAt F i x < length (F .order)
+unfolding keptPlaces keptOf
+place-below F i x l =
+    all-at (λ p. p < length (F .order)) (keptPlaces F i) 0 x
+    (all-take (λ p. p < length (F .order)) (F .config .checking) (thinned (passAt (F .passes) i .cosine) (spotOf F i) (length (F .order)))
+    (thinned-below (passAt (F .passes) i .cosine) (spotOf F i) (length (F .order)) (length (F .order)) (omega arith)))
+    l
+
+pub kept-few : (F : Frame) (i : ℕ) → length (keptPlaces F i) ≤ F .config .checking
+unfolding keptPlaces keptOf
+kept-few F i = omega (arith, length-take (F .config .checking) (thinned (passAt (F .passes) i .cosine) (spotOf F i) (length (F .order))))
+
+-- ---- directions
+both : (a b : Bool) → a && b ≡ true → (a ≡ true) × (b ≡ true)
+both true b h = (refl, h)
+both false b h = absurd (let z : _≡_ {A = ℕ} 0 1 = cc in omega arith)
+
+scale-of : (x : Float) → scaleFits x ≡ true → Scale x
+unfolding scaleFits ofBits
+scale-of x h = let p = both (lt zero32 x) (le x (fin false 1 (pos 4))) h in record { above = holds _ (p .0); most = holds _ (p .1) }
+
+small-of : (v : List Float) → UnitVector v → Direction Small v
+unfolding le
+small-of v u = record { x = u .x; y = u .y; z = in-wider (fin true 1 (pos 20)) (fin false 1 (pos 20)) tt tt (u .z) }
+
+pub image-ratios-of : (v : List (List Float)) → Directions v → Ratios (imageOf v .ratios)
+unfolding imageOf
+image-ratios-of v d = directions-ratios v d
+
+module _ (F : Frame) (a : Asked5 F) (i : ℕ) (h : i < length (F .passes) / 3) where
+  spot-small : (p : ℕ) → p < length (F .order) → Direction Small (spotOf F i p)
+  spot-small p l =
+      small-of _ (centroid-vectors (F .centroids) _ (passAt (F .passes) i .scale) (a .two)
+      (places-have-centroids (F .order) (F .centroids) (record { 0 = p }) (a .three) l)
+      (scale-of _ (passes-fitting (F .passes) (a .five) .scales i h)))
+
+  kept-small : (x : ℕ) → x < length (keptPlaces F i) → Direction Small (spotOf F i (placeAt F i x))
+  kept-small x l = spot-small (placeAt F i x) (place-below F i x l)
+
+  pub directions-small : (q : Four) → Rising (length (keptPlaces F i)) q → Directions (directionsOf F i q)
+  unfolding directionsOf
+  directions-small q r =
+      record {
+        first = kept-small (q .a) (omega (arith, r .ab, r .bc, r .cd, r .dn));
+        second = kept-small (q .b) (omega (arith, r .bc, r .cd, r .dn));
+        third = kept-small (q .c) (omega (arith, r .cd, r .dn));
+        fourth = kept-small (q .d) (r .dn);
+      }
+
+  pub image-ratios : (q : Four) → Rising (length (keptPlaces F i)) q → Ratios (imageOf (directionsOf F i q) .ratios)
+  image-ratios q r = image-ratios-of (directionsOf F i q) (directions-small q r)
+
+-- ---- the directions on the desk
+map-at : {A B : Type 0} (f : A → B) (xs : List A) (d : A) (e : B) (i : ℕ) → i < length xs → getD (map f xs) i e ≡ f (getD xs i d)
+map-at f [] d e i l = absurd (omega arith)
+map-at f (x ∷ xs) d e zero l = refl
+map-at f (x ∷ xs) d e (suc i) l = map-at f xs d e i (omega arith)
+
+module _ (F : Frame) (i n : ℕ) (dirs : List (List Float)) (c : n ≡ length (keptPlaces F i)) (e : take n dirs ≡ map (spotOf F i) (keptPlaces F i)) where
+  desk-at : (x : ℕ) → x < n → getD dirs x [] ≡ spotOf F i (placeAt F i x)
+  desk-at x l = sym (getD-take n dirs x [] l) ∙ ap (λ z. getD z x []) e ∙ map-at (spotOf F i) (keptPlaces F i) 0 [] x (omega arith)
+
+  pub desk-directions : (q : Four) → Rising n q → fourOf dirs q ≡ directionsOf F i q
+  unfolding directionsOf
+  desk-directions q r =
+      rw (
+        desk-at (q .a) (omega (arith, r .ab, r .bc, r .cd, r .dn)),
+        desk-at (q .b) (omega (arith, r .bc, r .cd, r .dn)),
+        desk-at (q .c) (omega (arith, r .cd, r .dn)),
+        desk-at (q .d) (r .dn),
+      )

@@ -1,0 +1,37 @@
+-- What demand 3 rests on, as statements; proofs/ has a proof of each under the name given beside it. Definitions only.
+use mathlib.Core.Path.{_≡_}
+use mathlib.Core.Bool.{Bool, true}
+use mathlib.Core.Option.{none}
+use Rattle.preprocess.specs.Questions.{centroidsFit, coordinatesFit, orderFits}
+use Rattle.tolerance.specs.Tolerances.{settingsFit}
+use Rattle.search_feed.specs.declared.SearchConfig.{SearchConfig}
+use Rattle.passes.specs.Passes.{passesFit}
+use Rattle.pattern_catalog.specs.Blocks.{tableFits}
+use Rattle.pattern_catalog.specs.Opening.{opening}
+use Rattle.undivided_run.specs.Exists.{Keyed, Within, Opened}
+use Rattle.search_feed.specs.Data.{Frame, Data}
+use Rattle.search_feed.specs.Feed.{feed}
+
+-- question 4 of the settings
+abbrev pub settingsOk : SearchConfig → Bool
+settingsOk c = settingsFit (c .bins) (c .checking) (c .error) (c .radius) (c .matching) (c .fov)
+
+-- questions 1 to 5 of what is lent
+pub record Asked5 (F : Frame) : Type 0 where
+  pub one : centroidsFit (F .centroids) ≡ true
+  pub two : coordinatesFit (F .centroids) ≡ true
+  pub three : orderFits (F .order) (F .centroids) ≡ true
+  pub four : settingsOk (F .config) ≡ true
+  pub five : passesFit (F .passes) ≡ true
+
+-- Past questions 1 to 5 every combination that exists has a key, so it is tried: `every-four-keyed`.
+abbrev pub EveryFourKeyed : Type 0
+EveryFourKeyed = (D : Data) → Asked5 (D .frame) → Keyed (feed D)
+
+-- Past questions 1 to 6 all counts lie within their limits: `within-limits`.
+abbrev pub WithinLimits : Type 0
+WithinLimits = (D : Data) → Asked5 (D .frame) → tableFits (D .slots) (D .words) ≡ true → Within (feed D)
+
+-- Past the opening check question 9 holds at every filled slot: `opened-sound`.
+abbrev pub OpenedSound : Type 0
+OpenedSound = (D : Data) → opening (D .slots) (D .words) (D .packed) (D .stars) ≡ none → Opened (feed D)

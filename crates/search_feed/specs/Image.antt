@@ -1,0 +1,61 @@
+-- Document 01, "One search": what a frame shows of a combination, and the keys that it is looked up by. Definitions only.
+use Prim.Native.Nat.{ℕ}
+use mathlib.Core.List.{List, [], _∷_}
+use lib.ListN.{length, getD}
+use lib.Ieee.{Float, nan}
+use Rattle.combinations.specs.declared.Four.{Four}
+use Rattle.passes.specs.declared.Pass.{Pass}
+use Rattle.passes.specs.Passes.{passAt}
+use Rattle.thinning.specs.Thinning.{spotAt, keptOf}
+use Rattle.pattern.specs.Edges.{edgesOf, ratiosOf}
+use Rattle.pattern.specs.Key.{hashOf}
+use Rattle.pattern_keys.specs.Ranges.{keysFor}
+use Rattle.tolerance.specs.Tolerances.{toleranceOf}
+use Rattle.candidates.specs.declared.Image.{Image}
+use Rattle.search_feed.specs.declared.SearchConfig.{SearchConfig}
+use Rattle.search_feed.specs.Data.{Frame}
+
+-- the largest edge and the five ratios of four directions
+unfoldable pub imageOf : List (List Float) → Image
+imageOf v = record { edge = getD (edgesOf v) 5 nan; ratios = ratiosOf (edgesOf v) }
+
+-- the tolerance e
+abbrev pub toleranceIn : SearchConfig → Float
+toleranceIn c = toleranceOf (c .matching) (c .error) (c .bins)
+
+-- the keys of what the image shows, in order
+unfoldable pub keysIn : SearchConfig → Image → List (List ℕ)
+keysIn c m = keysFor (m .ratios) (toleranceIn c) (c .bins)
+
+-- the hash of the k-th key
+unfoldable pub hashIn : SearchConfig → Image → ℕ → ℕ
+hashIn c m k = hashOf (getD (keysIn c m) k []) (c .bins)
+
+-- the directions at four positions of a list
+abbrev pub fourOf : List (List Float) → Four → List (List Float)
+fourOf v q = getD v (q .a) [] ∷ getD v (q .b) [] ∷ getD v (q .c) [] ∷ getD v (q .d) [] ∷ []
+
+module _ (F : Frame) where
+  -- pass number i
+  abbrev pub passOf : ℕ → Pass
+  passOf i = passAt (F .passes) i
+
+  -- the direction of the spot at a place of the brightness list, in pass i
+  abbrev pub spotOf : ℕ → ℕ → List Float
+  spotOf i p = spotAt (F .centroids) (F .order) (passOf i .scale) p
+
+  -- the kept places of pass i
+  unfoldable pub keptPlaces : ℕ → List ℕ
+  keptPlaces i = keptOf (passOf i .cosine) (spotOf i) (length (F .order)) (F .config .checking)
+
+  -- position x of the kept list of pass i, as a place in the brightness list
+  abbrev pub placeAt : ℕ → ℕ → ℕ
+  placeAt i x = getD (keptPlaces i) x 0
+
+  -- a combination's four directions
+  unfoldable pub directionsOf : ℕ → Four → List (List Float)
+  directionsOf i q = spotOf i (placeAt i (q .a)) ∷ spotOf i (placeAt i (q .b)) ∷ spotOf i (placeAt i (q .c)) ∷ spotOf i (placeAt i (q .d)) ∷ []
+
+  -- what the frame shows of a combination
+  abbrev pub imageAt : ℕ → Four → Image
+  imageAt i q = imageOf (directionsOf i q)

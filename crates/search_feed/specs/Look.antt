@@ -1,0 +1,69 @@
+-- What one read sees, as the code has it. Definitions only.
+use Prim.Native.Nat.{ℕ}
+use mathlib.Core.Bool.{cond, false}
+use mathlib.Core.List.{List, [], _∷_}
+use lib.IntN.{pos}
+use lib.ListN.{getD}
+use lib.Ieee.{Float, fin}
+use Rattle.combinations.specs.declared.Four.{Four}
+use Rattle.preprocess.specs.declared.Place.{Place}
+use Rattle.pattern.specs.Key.{markOf}
+use Rattle.pattern_entry.specs.declared.StarIndex.{StarIndex}
+use Rattle.pattern_catalog.specs.Blocks.{filled, place}
+use Rattle.pattern_entry.specs.Entry.{star, bytesAt, entryRead, entrySound}
+use Rattle.candidates.specs.Tests.{testOf, rebuildOf}
+use Rattle.candidates.specs.declared.Image.{Image}
+use Rattle.candidates.specs.declared.Candidate.{Candidate}
+use Rattle.candidates.specs.declared.Tested.{Tested}
+use Rattle.candidates.specs.declared.Tested.the-variants.{Over, Hit}
+use Rattle.undivided_run.specs.declared.Position.{Position}
+use Rattle.search_feed.specs.Data.{Data}
+use Rattle.search_feed.specs.Image.{toleranceIn, passOf, imageAt}
+use Rattle.search_feed.specs.Feed.{placeOf, placesOf, hashOfRead, slotAt}
+use Rattle.search_feed.specs.declared.SearchConfig.{SearchConfig}
+use Rattle.search_feed.specs.declared.Sight.{Sight}
+use Rattle.search_feed.specs.declared.Seen.{Seen}
+use Rattle.search_feed.specs.declared.Seen.the-variants.{Empty, Unsound, Passed, Found}
+
+-- the candidate where none is given: all zero
+unfoldable pub noCandidate : Candidate
+noCandidate =
+    record {
+      pass = 0;
+      places = placeOf 0 ∷ placeOf 0 ∷ placeOf 0 ∷ placeOf 0 ∷ [];
+      slot = 0;
+      stars = star 0 ∷ star 0 ∷ star 0 ∷ star 0 ∷ [];
+      field = fin false 0 (pos 0);
+      rebuild = false;
+    }
+
+abbrev pub blank : Seen → Sight
+blank s = record { seen = s; candidate = noCandidate }
+
+-- the places at four positions of a list
+abbrev pub placesIn : List ℕ → Four → List Place
+placesIn l q = placeOf (getD l (q .a) 0) ∷ placeOf (getD l (q .b) 0) ∷ placeOf (getD l (q .c) 0) ∷ placeOf (getD l (q .d) 0) ∷ []
+
+-- what the tests make of a sound entry
+abbrev pub lookedOf : Tested → ℕ → List Place → ℕ → List StarIndex → Float → Float → Sight
+lookedOf Over pass places slot stars field radius = blank Passed
+lookedOf (Hit f) pass places slot stars field radius =
+    record { seen = Found; candidate = record { pass = pass; places = places; slot = slot; stars = stars; field = f; rebuild = rebuildOf f field radius } }
+
+-- a filled slot, by its bytes: question 9 of the entry, then the tests
+unfoldable pub entryLook : List ℕ → ℕ → ℕ → List Place → ℕ → Image → SearchConfig → Float → List Float → Sight
+entryLook e slot hash places pass image c field stars =
+    cond (entrySound stars e)
+    (lookedOf (testOf (entryRead e) (markOf hash) stars image (toleranceIn c) field (c .fov)) pass places slot (entryRead e .stars) field (c .radius))
+    (blank Unsound)
+
+-- a read of a slot: an empty slot; an entry that question 9 refuses; one that is passed over; one that gives a candidate
+unfoldable pub lookIn : List ℕ → List ℕ → ℕ → ℕ → List Place → ℕ → Image → SearchConfig → Float → List Float → Sight
+lookIn words packed slot hash places pass image c field stars =
+    cond (filled words slot) (entryLook (bytesAt packed (place words slot)) slot hash places pass image c field stars) (blank Empty)
+
+-- the read at a position of a search
+abbrev pub lookAt : Data → Position → Sight
+lookAt D r =
+    lookIn (D .words) (D .packed) (slotAt D r) (hashOfRead (D .frame) r) (placesOf (D .frame) (r .pass) (r .four)) (r .pass)
+    (imageAt (D .frame) (r .pass) (r .four)) (D .frame .config) (passOf (D .frame) (r .pass) .field) (D .stars)
