@@ -12,10 +12,17 @@ use Rattle.passes.specs.Passes.{passesFit}
 use Rattle.pattern_entry.specs.Stars.{starsFit}
 use Rattle.candidates.specs.declared.Candidate.{Candidate}
 use Rattle.candidates.specs.Tests.{starsOf}
+use Rattle.complete.specs.declared.Row.{Row}
 use Rattle.complete.specs.declared.Completion.{Completion}
-use Rattle.complete.specs.Answers.{Answer, vectors, refused, completedAs, completedSays}
+use Rattle.complete.specs.declared.Completed.{Completed}
+use Rattle.complete.specs.Answers.{Answer, vectors, refused, rowsOf, zeroes, completedAs, completedSays}
 use Rattle.complete.specs.Completing.{candidateFits, fourSound, scaleOf, imageVectors, matchedOf, lastAsked, completing, completedOf}
 use Rattle.complete.specs.Claims.{CompletedSays, Asked, DoneExactly}
+
+-- what `refused` makes
+pub refused-as : (n : ℕ) {z : List Row} → z ≡ rowsOf zeroes
+    → _≡_ {A = Completed} (record { answer = Completion.Refused n; image = z; stars = z }) (completedAs (refused n))
+refused-as n h = rw h
 
 -- an answer that is told truly, through a question
 Told : Answer → Type 0

@@ -1,4 +1,5 @@
 -- `complete::refused` meets its contract. Assumes nothing.
+use Rattle.complete.proofs.Saying.{refused-as}
 use borrow.Author.Needs.{needs}
 use Rattle.complete.proofs.refused.Statement.{statement}
 use Rattle.complete.proofs.refused.Tie as tie
@@ -7,7 +8,7 @@ rows-requires : tie.Need-rows-requires
 rows-requires c κs = search needs
 
 returns : tie.Need-returns
-returns c = cc
+returns c = refused-as _ (c .rows .ensures)
 
 pub refused-spec : {M : Type 1} → statement M
 refused-spec = tie.close (tie.spec rows-requires returns)
