@@ -16,7 +16,7 @@ half = ofBits binary32 0x3F00_0000
 abbrev pub tiny : Float
 tiny = ofBits binary32 0x3980_0000
 
--- the f32 nearest to half of pi
+-- P: the f32 nearest to half of pi
 abbrev pub quarterTurn : Float
 quarterTurn = ofBits binary32 0x3FC9_0FDB
 
@@ -44,6 +44,7 @@ bend z =
 abbrev pub bent : Float → Float → Float
 bent x z = add binary32 x (mul binary32 x (bend z))
 
+-- z from 0.5 on: (1 - h) * 0.5
 abbrev pub halfBelow : Float → Float
 halfBelow h = mul binary32 (sub binary32 one h) half
 
@@ -51,5 +52,6 @@ halfBelow h = mul binary32 (sub binary32 one h) half
 unfoldable pub nearOne : Float → Float
 nearOne h = sub binary32 quarterTurn (mul binary32 two (bent (rootOf (halfBelow h)) (halfBelow h)))
 
+-- the arc of h, by its three pieces
 unfoldable pub arcOf : Float → Float
 arcOf h = cond (lt h tiny) h (cond (lt h half) (bent h (mul binary32 h h)) (nearOne h))

@@ -18,6 +18,7 @@ fn near_one(h: f32) -> f32
     f32::from_bits(0x3fc90fdb) - 2.0 * (s + s * bend(z))
 }
 
+// The arc of h, for h from 0 to 1.
 pub fn arc(h: f32) -> f32
     ensures { λ r. ⌜ r ≡ arcOf h ⌝ }
 {

@@ -15,7 +15,7 @@ use Rattle.candidates.specs.declared.Image.{Image}
 use Rattle.candidates.specs.declared.Tested.the-variants.{Hit}
 
 -- "A read gives a candidate exactly when .. its 16-bit mark agrees, all five ratios lie strictly inside the tolerance and both field-of-view tests pass.":
--- `hit-exactly`. (That its slot is filled is said where the read is.)
+-- `hit-exactly`. (That its slot is filled is said by `GivesExactly` of pattern_search.)
 pub record Agrees (entry : PatternEntry) (mark : ℕ) (stars : List Float) (image : Image) (e field : Float) (error : Tolerance) : Type 0 where
   pub mark-agrees : entry .mark ≡ mark
   pub ratios-inside : inside (image .ratios) e (ratiosOf (edgesOf (starsOf stars (entry .stars)))) ≡ true

@@ -1,4 +1,4 @@
--- "The next combination worked out from the present one." `WalksFours` of Claims.antt says that this walks the list of fours. Definitions only.
+-- ".. the next combination worked out from the present one." `WalksFours` of Claims.antt says that this walks the list of fours. Definitions only.
 use Prim.Native.Nat.{ℕ, suc, _+_, _-_, _*_, max}
 use mathlib.Core.Bool.{cond}
 use mathlib.Core.Option.{Option, none, some}

@@ -19,6 +19,7 @@ pub enum MaybeFour {
     Nothing,
 }
 
+// The larger of two positions.
 fn larger(x: u32, y: u32) -> u32
     ensures { λ r. ⌜ r ≡ max x y ⌝ }
 {

@@ -73,6 +73,7 @@ pub fn to_bits(x: f32) -> u32
     0x7fc0_0000
 }
 
+// A byte as a wider number.
 fn wide(b: u8) -> u32
     ensures { λ r. ⌜ (r ≡ b) × (r < 256) ⌝ }
 {

@@ -20,7 +20,7 @@ use Rattle.float_order.proofs.Bounds.{finite-between, sub-below, add-ab
 use Rattle.float_order.specs.Choice.{larger, smaller}
 use Rattle.float_order.proofs.Truncation.{truncation-mono, cut-larger, smaller-reaches, smaller-left, smaller-right}
 use Rattle.float_order.specs.KeyPart.{bins32}
-use Rattle.float_order.specs.Claims.{RatiosRise, ImagePartInRange, PartsNeverFall}
+use Rattle.float_order.specs.Claims.{RatiosRise, ImagePartInRange, PartsNeverFall, PartOfOne}
 
 -- ---- the ratios of sorted edges
 pub above-zero : (y : Float) → T (finite y) → T (lt zero32 y) → T (positive y)
@@ -128,7 +128,7 @@ upper-at-most r e B R E p l =
 pub part-at-most : (r : Float) (B : ℕ) → T (finite r) → T (le r one32) → 0 < B → B ≤ 4096 → toUnsigned 32 (mul binary32 r (bins32 B)) ≤ B
 part-at-most r B R k p l = le-trans (truncation-mono 32 (mul binary32 r (bins32 B)) (bins32 B) (mul-within binary32 r (bins32 B) R (bins-positive B p l) (bins-fits B) k)) (le-of-eq (bins-cut B l))
 
-pub part-of-one : (B : ℕ) → 0 < B → B ≤ 4096 → toUnsigned 32 (mul binary32 one32 (bins32 B)) ≡ B
+pub part-of-one : PartOfOne
 part-of-one B p l =
     let P = bins-positive B p l in
     le-antisymm (part-at-most one32 B tt (le-same one32 tt) p l)

@@ -29,7 +29,7 @@ pairAt estimate offset =
     ∷ cond (lt zero32 (sub binary32 estimate offset)) (sub binary32 estimate offset ∷ []) []
 
 -- The values from an offset on, as build_fov_sweep has it: while the offset is within reach and the sum below pi; the next offset is a step more,
--- and where that sum no longer grows the list ends. At most k offsets are taken; `MoreOffsets` of Claims.antt says that this bound leaves nothing out.
+-- and where the next offset isn't larger the list ends. At most k offsets are taken; `MoreOffsets` of Claims.antt says that this bound leaves nothing out.
 unfoldable pub pairsFrom : ℕ → Float → Float → Float → Float → List Float
 unfolding pairAt
 pairsFrom zero estimate reach step offset = []

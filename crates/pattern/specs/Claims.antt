@@ -37,7 +37,7 @@ EdgeRatiosRise = (e : List Float) → length e ≡ 6 → Rising e → Between ze
 abbrev pub DirectionsRatios : Type 0
 DirectionsRatios = (v : List (List Float)) → Directions v → Ratios (ratiosOf (edgesOf v))
 
--- ---- key and hash: proofs/Keys.antt
+-- ---- key and hash: proofs/Keys.antt, proofs/Hash.antt
 
 -- Of ratios that rise within [0, 1], no key part is above bins and none is below the one before it: `key-parts`, `key-rises`.
 abbrev pub KeyParts : Type 0

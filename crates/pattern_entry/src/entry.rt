@@ -31,6 +31,7 @@ fn word(e: &[u8], at: usize) -> u32
     ])
 }
 
+// A byte as a wider number.
 fn wide(b: u8) -> u16
     ensures { λ r. ⌜ (r ≡ b) × (r < 256) ⌝ }
 {

@@ -91,6 +91,7 @@ fn subnormal(b: u32) -> u32
     pattern((b << (z - 8)) as u64, (32 - z) as u64)
 }
 
+// The same for a pattern with its leading one.
 fn normal(b: u32) -> u32
     requires { ⌜ (8388608 ≤ b) × (b < 2139095040) ⌝ }
     ensures { λ r. ⌜ (ofBits binary32 r ≡ rootOf (ofBits binary32 b)) × (r < 2139095040) ⌝ }
@@ -98,6 +99,7 @@ fn normal(b: u32) -> u32
     pattern((b % 8388608 + 8388608) as u64, (b / 8388608 + 23) as u64)
 }
 
+// The root of a finite value above 0.
 fn above_zero(x: f32) -> f32
     requires { ⌜ T (positive x) ⌝ }
     ensures { λ r. ⌜ r ≡ rootOf x ⌝ }

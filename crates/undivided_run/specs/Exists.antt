@@ -32,7 +32,7 @@ pub record Within {E C : Type 0} (F : Feed E C) : Type 0 where
   pub keys : (i : ℕ) (q : Four) → FourHere F i q → F .keys i q ≤ 1024
   pub slots : F .slots ≤ 16777216
 
--- the table passed the opening check: question 9 holds at every filled slot
+-- what the opening check leaves: question 9 holds at every filled slot
 abbrev pub Opened : {E C : Type 0} → Feed E C → Type 0
 Opened F = (x : ℕ) → cases (F .entry x) true (F .sound) ≡ true
 

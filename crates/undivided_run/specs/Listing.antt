@@ -19,7 +19,7 @@ unfoldable pub feeds : {E C : Type 0} → State → List (Lent E C) → List Fed
 feeds st [] = []
 feeds st (x ∷ xs) = fedFor (refusalOf st x) (x .allowance) ∷ feeds ((searchCall st x) .1) xs
 
--- What state a machine's n stands for: ended with its status, fresh while nothing was read and a read is left, else at the (n+1)-th read of the run.
+-- What state a machine's n stands for: ended with its status, fresh while no call has read or ended it, else at the (n+1)-th read of the run.
 pub record Leaves (run : Run) (m : Machine) (st : State) : Type 0 where
   pub ended : (s : Status) → m .final ≡ some s → st .phase ≡ done s
   pub unread : m .final ≡ none → m .taken ≡ 0 → st .phase ≡ new

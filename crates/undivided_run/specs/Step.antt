@@ -42,7 +42,7 @@ look first new = first
 look first (at r) = goes r
 look first (done s) = ends s
 
--- Allowance 0 changes nothing while a read is left; only a fresh state has to be looked at for that.
+-- Allowance 0 changes nothing while a read is left; for a fresh state the first read has to be looked for.
 unfoldable pub zeroCall : {C : Type 0} → State → Next → Answer C × State
 zeroCall st (ends s) = (over s, record { phase = done s; patterns = st .patterns; reads = st .reads })
 zeroCall st (goes r) = (used, st)
