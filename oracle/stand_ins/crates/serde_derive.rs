@@ -1,0 +1,14 @@
+//! Stand-in derives: they accept what the source writes and add nothing.
+
+extern crate proc_macro;
+use proc_macro::TokenStream;
+
+#[proc_macro_derive(Serialize, attributes(serde))]
+pub fn serialize(_item: TokenStream) -> TokenStream {
+    TokenStream::new()
+}
+
+#[proc_macro_derive(Deserialize, attributes(serde))]
+pub fn deserialize(_item: TokenStream) -> TokenStream {
+    TokenStream::new()
+}
