@@ -1,0 +1,9 @@
+pub mod Asking
+pub mod Desks
+pub mod Existing
+pub mod Beginning
+pub mod Stepping
+pub mod Turning
+pub mod Calling
+pub mod Listed
+pub mod Run

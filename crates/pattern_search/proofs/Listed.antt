@@ -1,0 +1,158 @@
+-- Demand 3 of the search. Assumes nothing.
+use mathlib.Core.Path.{_≡_, refl, sym, _∙_, ap, ap₂, subst}
+use Prim.Native.Nat.{ℕ, _≤_, _<_}
+use mathlib.Core.Logic.{_⊎_, inl, inr}
+use native.Mathlib.Omega.{arith}
+use mathlib.Core.List.{List, [], _∷_, map}
+use mathlib.Core.Bool.{Bool, true, false, cond}
+use mathlib.Core.Option.{Option, none, some}
+use Rattle.candidates.specs.declared.Candidate.{Candidate}
+use Rattle.preprocess.specs.Questions.{centroidsFit, coordinatesFit, orderFits}
+use Rattle.passes.specs.Passes.{passesFit}
+use Rattle.pattern_entry.specs.Ask.{ask}
+use Rattle.pattern_entry.specs.Stars.{starsFit}
+use Rattle.pattern_catalog.specs.Blocks.{tableFits}
+use Rattle.search_feed.specs.Claims.{settingsOk}
+use Rattle.pattern_catalog.proofs.Passed.{passed}
+use Rattle.undivided_run.specs.declared.State.{State}
+use Rattle.undivided_run.specs.declared.Status.{Status}
+use Rattle.undivided_run.specs.declared.Next.the-variants.{Ends}
+use Rattle.undivided_run.proofs.Progress.{progress-any, used-exactly}
+use Rattle.undivided_run.specs.Undivided.{cases}
+use Rattle.undivided_run.specs.Calls.{Answer, candidate, used, over, refused, calls, found}
+use Rattle.undivided_run.specs.Step.{Lent, start, look, firstRead, searchCall, refusalOf, nineOf}
+use Rattle.undivided_run.specs.Listing.{FairList}
+use Rattle.undivided_run.specs.Exists.{Keyed}
+use Rattle.undivided_run.specs.Eight.{eightOk}
+use Rattle.undivided_run.proofs.Demand3.{KeyedList, demand3, eight, never-nine}
+use Rattle.undivided_run.proofs.Eights.{eight-holds}
+use Rattle.search_feed.specs.Data.{Data}
+use Rattle.search_feed.specs.Feed.{feed}
+use Rattle.search_feed.proofs.Limits.{every-four-keyed, within-limits}
+use Rattle.search_feed.proofs.Sound.{opened-sound}
+use Rattle.pattern_search.specs.Questions.{firstSeven, firstNo}
+use Rattle.pattern_search.specs.Answers.{lentOf, said, shown, searched, searchedSays}
+use Rattle.pattern_search.specs.Listed.{Given, lentBy, returned, replies, lastState, answersOf, AllSame, Opens, EveryList, NeverRefused, RefusedAtMostFive, ReturnedSays, ReadsASlot, UsesItsAllowance}
+use Rattle.pattern_search.proofs.Asking.{seven-asked, seven-table}
+
+-- ---- the replies are the calls' answers
+says : (t : Answer Candidate × State) → searchedSays (searched t) ≡ t .0
+unfolding said shown
+says (candidate x, s) = refl
+says (used, s) = refl
+says (over z, s) = refl
+says (refused k, s) = refl
+
+pub returned-says : ReturnedSays
+returned-says st g = (says (searchCall st (lentBy g)), refl)
+
+replies-calls : (st : State) (gs : List Given) → answersOf (replies st gs) ≡ (calls searchCall st (map lentBy gs)) .0
+unfolding replies calls
+replies-calls st [] = refl
+replies-calls st (g ∷ gs) = ap₂ _∷_ (says (searchCall st (lentBy g))) (replies-calls ((returned st g) .state) gs)
+
+last-calls : (st : State) (gs : List Given) → lastState st gs ≡ (calls searchCall st (map lentBy gs)) .1
+unfolding lastState calls
+last-calls st [] = refl
+last-calls st (g ∷ gs) = last-calls ((returned st g) .state) gs
+
+-- ---- one call
+pub reads-a-slot : ReadsASlot
+unfolding lentOf
+reads-a-slot st g h p = by (progress-any st (lentBy g) h p)
+  where
+    by : (st .reads < (searchCall st (lentBy g)) .1 .reads) ⊎ ((s : Status) × (look (firstRead (feed (g .data-of)) (g .data-of .frame .config .cap)) (st .phase) ≡ Ends s) × ((searchCall st (lentBy g)) .0 ≡ over s)) → (st .reads < (returned st g) .state .reads) ⊎ ((s : Status) × (look (firstRead (feed (g .data-of)) (g .data-of .frame .config .cap)) (st .phase) ≡ Ends s) × (searchedSays (returned st g) ≡ over s))
+    by (inl l) = inl l
+    by (inr (s, e, o)) = inr (s, e, says (searchCall st (lentBy g)) ∙ o)
+
+pub uses-its-allowance : UsesItsAllowance
+unfolding lentOf
+uses-its-allowance st g h = used-exactly st (lentBy g) (sym (says (searchCall st (lentBy g))) ∙ h)
+
+-- ---- a call that is not refused passed questions 1 to 7
+asked-none : (st : State) (x : Lent (List ℕ) Candidate) → refusalOf st x ≡ none → x .asked st ≡ none
+unfolding refusalOf cases
+asked-none st x h = by (x .asked st) h
+  where
+    by : (o : Option ℕ) → cases o (cond (nineOf st x) (some 9) none) (λ k. some k) ≡ none → o ≡ none
+    by none e = refl
+    by (some k) e = absurd (let z : _≡_ {A = ℕ} 0 1 = cc in omega arith)
+
+seven-none : (D : Data) (st : State) → firstNo D st ≡ none → firstSeven (D .frame) (D .slots) (D .words) (D .stars) ≡ none
+unfolding firstNo cases
+seven-none D st h = by (firstSeven (D .frame) (D .slots) (D .words) (D .stars)) _ h
+  where
+    by : (o p : Option ℕ) → cases o p (λ n. some n) ≡ none → o ≡ none
+    by none p e = refl
+    by (some k) p e = absurd (let z : _≡_ {A = ℕ} 0 1 = cc in omega arith)
+
+module _ (D : Data) where
+  keyed-by : (st : State) (g : Given) → g .data-of ≡ D → refusalOf st (lentBy g) ≡ none → Keyed (feed D)
+  unfolding lentOf
+  keyed-by st g e h =
+      let s = seven-none (g .data-of) st (asked-none st (lentBy g) h) in
+      subst (λ X. Keyed (feed X)) e (every-four-keyed (g .data-of) (seven-asked _ _ _ _ s))
+
+  fair : (st : State) (gs : List Given) → AllSame D st gs → FairList (feed D) (D .frame .config .cap) st (map lentBy gs)
+  unfolding lentOf
+  fair st [] h = tt
+  fair st (g ∷ gs) h = (λ a. (ap (λ X. feed X) (h .0 a), ap (λ (X : Data). X .frame .config .cap) (h .0 a)), fair ((returned st g) .state) gs (h .1))
+
+  module _ (o : Opens D) where
+    keyed : (st : State) (gs : List Given) → AllSame D st gs → KeyedList (feed D) (D .frame .config .cap) (opened-sound D o) st (map lentBy gs)
+    keyed st [] h = tt
+    keyed st (g ∷ gs) h = (λ a. keyed-by st g (h .0 a) a, keyed ((returned st g) .state) gs (h .1))
+
+-- For every list of calls from a fresh state, those not refused given the same, whose table passed the opening check.
+pub listed : EveryList
+listed D o gs h =
+    let d = demand3 (feed D) (D .frame .config .cap) (opened-sound D o) (map lentBy gs) (fair D start gs h) (keyed D o start gs h) in
+    record {
+      answers = replies-calls start gs ∙ d .answers;
+      found-in-order = rw (last-calls start gs) (ap found (replies-calls start gs) ∙ d .found-in-order);
+      reads = rw (last-calls start gs) (d .reads);
+      patterns = rw (last-calls start gs) (d .patterns);
+      status = rw (last-calls start gs) (d .status);
+      leaves = rw (last-calls start gs) (d .leaves);
+    }
+
+clear : (D : Data) (st : State) → firstSeven (D .frame) (D .slots) (D .words) (D .stars) ≡ none → eightOk (feed D) st ≡ true → firstNo D st ≡ none
+unfolding firstNo cases
+clear D st s e = rw (s, e)
+
+pub never-refused : NeverRefused
+unfolding lentOf
+never-refused D o s gs h g e =
+    let q = seven-asked _ _ _ _ s in
+    let st = lastState start gs in
+    let z = eight (feed D) (D .frame .config .cap) (opened-sound D o) (every-four-keyed D q) (within-limits D q (seven-table _ _ _ _ s)) (map lentBy gs) (fair D start gs h) in
+    let y : eightOk (feed D) st ≡ true = rw (last-calls start gs) (eight-holds (feed D) _ _ _ z) in
+    never-nine (feed D) (D .frame .config .cap) (opened-sound D o) st (lentBy g) (ap (λ X. feed X) e)
+    (subst (λ X. firstNo X st ≡ none) (sym e) (clear D st s y))
+
+-- ---- from the opening check alone
+refused-by : (D : Data) (st : State) (a k : ℕ) → firstSeven (D .frame) (D .slots) (D .words) (D .stars) ≡ some k → refusalOf st (lentOf D a) ≡ some k
+unfolding refusalOf lentOf firstNo cases
+refused-by D st a k s = rw s
+
+-- past 6 and 7, the first no of 1 to 7 is one of 1 to 5
+five-first : (a b c d e f g : Bool) → f ≡ true → g ≡ true → let o : Option ℕ = ask a (some 1) (ask b (some 2) (ask c (some 3) (ask d (some 4) (ask e (some 5) (ask f (some 6) (ask g (some 7) none)))))) in (o ≡ none) ⊎ ((k : ℕ) × (o ≡ some k) × (k ≤ 5))
+five-first false b c d e f g p q = inr (1, refl, omega arith)
+five-first true false c d e f g p q = inr (2, refl, omega arith)
+five-first true true false d e f g p q = inr (3, refl, omega arith)
+five-first true true true false e f g p q = inr (4, refl, omega arith)
+five-first true true true true false f g p q = inr (5, refl, omega arith)
+five-first true true true true true f g p q = inl (rw (p, q))
+
+opened-seven : (D : Data) → Opens D → (firstSeven (D .frame) (D .slots) (D .words) (D .stars) ≡ none) ⊎ ((k : ℕ) × (firstSeven (D .frame) (D .slots) (D .words) (D .stars) ≡ some k) × (k ≤ 5))
+unfolding firstSeven
+opened-seven D o =
+    let p = passed _ _ _ _ o in
+    five-first (centroidsFit (D .frame .centroids)) (coordinatesFit (D .frame .centroids)) (orderFits (D .frame .order) (D .frame .centroids)) (settingsOk (D .frame .config)) (passesFit (D .frame .passes)) (tableFits (D .slots) (D .words)) (starsFit (D .stars)) (p .fits) (p .sky)
+
+pub refused-at-most-five : RefusedAtMostFive
+refused-at-most-five D o gs h g e = by (opened-seven D o)
+  where
+    by : (firstSeven (D .frame) (D .slots) (D .words) (D .stars) ≡ none) ⊎ ((k : ℕ) × (firstSeven (D .frame) (D .slots) (D .words) (D .stars) ≡ some k) × (k ≤ 5)) → (refusalOf (lastState start gs) (lentBy g) ≡ none) ⊎ ((k : ℕ) × (refusalOf (lastState start gs) (lentBy g) ≡ some k) × (k ≤ 5))
+    by (inl s) = inl (never-refused D o s gs h g e)
+    by (inr (k, s, l)) = inr (k, subst (λ X. refusalOf (lastState start gs) (lentOf X (g .allowance)) ≡ some k) (sym e) (refused-by D (lastState start gs) (g .allowance) k s), l)
