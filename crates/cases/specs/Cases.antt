@@ -11,7 +11,7 @@ use Rattle.square_root.specs.Root.{rootOf}
 use Rattle.arc.specs.Arc.{arcOf}
 use Rattle.combinations.specs.declared.Four.{Four}
 use Rattle.combinations.specs.Claims.{FivePositions, SixSumTen}
-use Rattle.pattern.specs.Claims.{KeyCase}
+use Rattle.key_hash.specs.Claims.{KeyCase}
 use Rattle.pattern_keys.specs.Claims.{KeysCase}
 use Rattle.pattern_catalog.specs.Cases.{RankFive}
 use Rattle.fov_sweep.specs.Claims.{SweepOne, SweepQuarter}

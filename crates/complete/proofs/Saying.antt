@@ -5,7 +5,7 @@ use native.Mathlib.Omega.{arith}
 use mathlib.Core.Bool.{Bool, true, false}
 use mathlib.Core.List.{List}
 use lib.Ieee.{Float}
-use Rattle.pattern.specs.CentroidOrder.{inOrder}
+use Rattle.centroid_order.specs.CentroidOrder.{inOrder}
 use Rattle.pattern_entry.specs.Ask.{ask}
 use Rattle.preprocess.specs.Questions.{centroidsFit, coordinatesFit, orderFits}
 use Rattle.passes.specs.Passes.{passesFit}

@@ -9,7 +9,7 @@ use Rattle.preprocess.specs.declared.Place.{Place}
 use Rattle.preprocess.specs.Questions.{centroidsFit, coordinatesFit, orderFits}
 use Rattle.preprocess.specs.Vectors.{centroidOf, vectorOf}
 use Rattle.passes.specs.Passes.{scaleFits, passAt, passesFit}
-use Rattle.pattern.specs.CentroidOrder.{orderOf, inOrder}
+use Rattle.centroid_order.specs.CentroidOrder.{orderOf, inOrder}
 use Rattle.pattern_entry.specs.declared.StarIndex.{StarIndex}
 use Rattle.pattern_entry.specs.Ask.{ask}
 use Rattle.pattern_entry.specs.Stars.{starsFit, starSound}

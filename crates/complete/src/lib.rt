@@ -116,8 +116,8 @@ fn image_vectors(centroids: &[f32], order: &[u32], places: [Place; 4], scale: f3
 fn matched(v: [[f32; 3]; 4]) -> [[f32; 3]; 4]
     ensures { λ r. ⌜ r ≡ matchedOf v ⌝ }
 {
-    let order = pattern::sort_pattern_by_centroid_distance(v);
-    pattern::in_order(v, order)
+    let order = centroid_order::sort_pattern_by_centroid_distance(v);
+    centroid_order::in_order(v, order)
 }
 
 // Four directions as rows.

@@ -16,8 +16,8 @@ use Rattle.float_order.specs.Ratios.{Ratio, Ratios}
 use Rattle.float_order.proofs.KeyParts.{image-part-in-range, upper-at-most}
 use Rattle.float_order.proofs.PartWidth.{at-most-four-values}
 use Rattle.float_order.proofs.Intervals.{in-finite}
-use Rattle.pattern.specs.Key.{keyOf, hashOf, Parts}
-use Rattle.pattern.proofs.Keys.{part-below, key-rises, key-parts as image-parts}
+use Rattle.key_hash.specs.Key.{keyOf, hashOf, Parts}
+use Rattle.key_hash.proofs.Keys.{part-below, key-rises, key-parts as image-parts}
 use Rattle.pattern_keys.specs.Steps.{Narrow, Holds, HashesOf, Hashed, AllParts}
 use Rattle.pattern_keys.specs.Ranges.{lowerOf, upperOf, keysFor, Tolerance}
 use Rattle.pattern_keys.specs.Listed.{Has, here, there, Listed, Precedes, Ordered, ordered}

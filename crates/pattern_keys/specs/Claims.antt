@@ -5,7 +5,7 @@ use mathlib.Core.List.{List, [], _∷_}
 use lib.ListN.{length, getD}
 use lib.Ieee.{Float}
 use Rattle.float_order.specs.Ratios.{Ratios}
-use Rattle.pattern.specs.Key.{keyOf, Parts}
+use Rattle.key_hash.specs.Key.{keyOf, Parts}
 use Rattle.pattern_keys.specs.Keys.{keysOf}
 use Rattle.pattern_keys.specs.Ranges.{keysFor, lowerOf, upperOf, Tolerance}
 use Rattle.pattern_keys.specs.Listed.{Has, Listed, Precedes, Ordered}

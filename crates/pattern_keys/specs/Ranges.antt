@@ -7,7 +7,7 @@ use lib.Ieee.{Float, nan, binary32, mul, le}
 use lib.Ieee.Scale.{finite}
 use Rattle.float_order.specs.Value.{zero32}
 use Rattle.float_order.specs.KeyPart.{bins32, five-quarters, lowOf, highOf}
-use Rattle.pattern.specs.Key.{keyOf}
+use Rattle.key_hash.specs.Key.{keyOf}
 use Rattle.pattern_keys.specs.Keys.{keysOf}
 
 abbrev pub five : (Float → ℕ) → List Float → List ℕ

@@ -9,7 +9,7 @@ use lib.ListN.{length, getD}
 use lib.Seq.{getD-take}
 use lib.Ieee.{Float}
 use Rattle.combinations.specs.Fours.{Rising}
-use Rattle.pattern.specs.Key.{homeOf}
+use Rattle.key_hash.specs.Key.{homeOf}
 use Rattle.pattern_catalog.specs.Blocks.{tableFits, filled as slotFilled, place}
 use Rattle.pattern_catalog.proofs.Slots.{fits-few}
 use Rattle.pattern_entry.specs.Entry.{bytesAt, entryRead, entrySound}

@@ -6,7 +6,7 @@ use mathlib.Core.Bool.{true}
 use mathlib.Core.List.{List}
 use mathlib.Core.Option.{none, some}
 use lib.Ieee.{Float}
-use Rattle.pattern.specs.Key.{markOf}
+use Rattle.key_hash.specs.Key.{markOf}
 use Rattle.pattern.specs.Edges.{edgesOf}
 use Rattle.pattern_catalog.specs.Blocks.{filled, place}
 use Rattle.pattern_entry.specs.Entry.{bytesAt, entryRead}

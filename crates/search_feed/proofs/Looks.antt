@@ -9,7 +9,7 @@ use lib.ListN.{length, take, drop, length-take, length-drop}
 use lib.Ieee.{Float}
 use borrow.Author.Tests.{leb-false, ne-eqb}
 use Rattle.preprocess.specs.declared.Place.{Place}
-use Rattle.pattern.specs.Key.{homeOf, markOf}
+use Rattle.key_hash.specs.Key.{homeOf, markOf}
 use Rattle.pattern_entry.specs.Ask.{ask}
 use Rattle.pattern_entry.specs.Entry.{bytesAt, inSection, entryRead, entrySound}
 use Rattle.pattern_entry.specs.declared.PatternEntry.{PatternEntry}

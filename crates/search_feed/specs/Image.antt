@@ -8,7 +8,7 @@ use Rattle.passes.specs.declared.Pass.{Pass}
 use Rattle.passes.specs.Passes.{passAt}
 use Rattle.thinning.specs.Thinning.{spotAt, keptOf}
 use Rattle.pattern.specs.Edges.{edgesOf, ratiosOf}
-use Rattle.pattern.specs.Key.{hashOf}
+use Rattle.key_hash.specs.Key.{hashOf}
 use Rattle.pattern_keys.specs.Ranges.{keysFor}
 use Rattle.tolerance.specs.Tolerances.{toleranceOf}
 use Rattle.candidates.specs.declared.Image.{Image}

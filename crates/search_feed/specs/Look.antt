@@ -7,7 +7,7 @@ use lib.ListN.{getD}
 use lib.Ieee.{Float, fin}
 use Rattle.combinations.specs.declared.Four.{Four}
 use Rattle.preprocess.specs.declared.Place.{Place}
-use Rattle.pattern.specs.Key.{markOf}
+use Rattle.key_hash.specs.Key.{markOf}
 use Rattle.pattern_entry.specs.declared.StarIndex.{StarIndex}
 use Rattle.pattern_catalog.specs.Blocks.{filled, place}
 use Rattle.pattern_entry.specs.Entry.{star, bytesAt, entryRead, entrySound}

@@ -8,7 +8,7 @@ ghost use lib.ListN.{length, getD};
 ghost use Rattle.pattern.specs.Directions.{Directions};
 ghost use Rattle.pattern_catalog.specs.Blocks.{tableFits};
 ghost use Rattle.pattern_entry.specs.Entry.{bytesAt};
-ghost use Rattle.pattern.specs.Key.{homeOf};
+ghost use Rattle.key_hash.specs.Key.{homeOf};
 ghost use Rattle.combinations.specs.Fours.{sameFour};
 ghost use Rattle.search_feed.specs.Data.{Frame, frameOf};
 ghost use Rattle.search_feed.specs.Image.{imageOf, fourOf, directionsOf};
@@ -258,7 +258,7 @@ pub fn slot_of_probe(hash: u64, c: u32, slots: u64) -> u64
     ensures { λ r. ⌜ (r ≡ (homeOf hash slots + c * c) % slots) × (r < slots) ⌝ }
 {
     let wide = c as u64;
-    let sum = pattern::hash_to_index(hash, slots) + wide * wide;
+    let sum = key_hash::hash_to_index(hash, slots) + wide * wide;
     if sum < slots {
         return sum;
     }
@@ -362,7 +362,7 @@ fn look_entry(
     let own = config.matching;
     let e = tolerance::max_error(own, config.error, config.bins);
     let fov = config.fov;
-    let tested = candidates::test_entry(read, pattern::mark_of(hash), stars, image, e, field, fov);
+    let tested = candidates::test_entry(read, key_hash::mark_of(hash), stars, image, e, field, fov);
     let indices = read.stars;
     look_tested(tested, pass, four, slot, indices, field, config.radius)
 }

@@ -1,5 +1,5 @@
 -- `complete::matched` meets its contract. Assumes nothing.
-use Rattle.pattern.proofs.Order.{order-positions}
+use Rattle.centroid_order.proofs.Order.{order-positions}
 use Rattle.complete.specs.Completing.{matchedOf}
 use borrow.Author.Needs.{needs}
 use Rattle.complete.proofs.matched.Statement.{statement}

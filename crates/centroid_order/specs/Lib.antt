@@ -1,0 +1,2 @@
+pub mod CentroidOrder
+pub mod Claims
