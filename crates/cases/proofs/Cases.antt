@@ -5,7 +5,7 @@ use Rattle.square_root.proofs.Examples.{four, two}
 use Rattle.arc.proofs.Laws.{arc-nought, arc-one}
 use Rattle.combinations.proofs.Cases.{five-positions, six-sum-ten}
 use Rattle.key_hash.proofs.Keys.{key-case}
-use Rattle.pattern_keys.proofs.Cases.{keys-case}
+use Rattle.key_list.proofs.Cases.{keys-case}
 use Rattle.pattern_catalog.proofs.Cases.{rank-five}
 use Rattle.fov_sweep.proofs.Answers.{sweep-one, sweep-quarter}
 use Rattle.preprocess.proofs.Units.{spot as spot-case}

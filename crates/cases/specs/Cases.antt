@@ -12,7 +12,7 @@ use Rattle.arc.specs.Arc.{arcOf}
 use Rattle.combinations.specs.declared.Four.{Four}
 use Rattle.combinations.specs.Claims.{FivePositions, SixSumTen}
 use Rattle.key_hash.specs.Claims.{KeyCase}
-use Rattle.pattern_keys.specs.Claims.{KeysCase}
+use Rattle.key_list.specs.Claims.{KeysCase}
 use Rattle.pattern_catalog.specs.Cases.{RankFive}
 use Rattle.fov_sweep.specs.Claims.{SweepOne, SweepQuarter}
 use Rattle.preprocess.specs.Claims.{Spot}

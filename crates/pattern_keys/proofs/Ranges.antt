@@ -18,13 +18,14 @@ use Rattle.float_order.proofs.PartWidth.{at-most-four-values}
 use Rattle.float_order.proofs.Intervals.{in-finite}
 use Rattle.key_hash.specs.Key.{keyOf, hashOf, Parts}
 use Rattle.key_hash.proofs.Keys.{part-below, key-rises, key-parts as image-parts}
-use Rattle.pattern_keys.specs.Steps.{Narrow, Holds, HashesOf, Hashed, AllParts}
+use Rattle.key_list.specs.Steps.{Narrow, Holds}
+use Rattle.pattern_keys.specs.Steps.{HashesOf, Hashed, AllParts}
 use Rattle.pattern_keys.specs.Ranges.{lowerOf, upperOf, keysFor, Tolerance}
-use Rattle.pattern_keys.specs.Listed.{Has, here, there, Listed, Precedes, Ordered, ordered}
+use Rattle.key_list.specs.Listed.{Has, here, there, Listed, Precedes, Ordered, ordered}
 use Rattle.pattern_keys.specs.Claims.{KeysCount, ImageListed, ImageFirst, KeyListed, ListedParts}
-use Rattle.pattern_keys.proofs.Laws.{keys-length, has-some}
-use Rattle.pattern_keys.proofs.Exact.{keys-all, keys-only}
-use Rattle.pattern_keys.proofs.Outward.{keys-ordered, none-before}
+use Rattle.key_list.proofs.Laws.{keys-length, has-some}
+use Rattle.key_list.proofs.Exact.{keys-all, keys-only}
+use Rattle.key_list.proofs.Outward.{keys-ordered, none-before}
 
 -- a number of bins is exact as an f32
 pub bins-exact : (B : ℕ) → B ≤ 4096 → T (inFloat binary32 (pos B))

@@ -1,6 +1,3 @@
-pub mod Keys
 pub mod Ranges
-pub mod Listed
 pub mod Steps
-pub mod Passes
 pub mod Claims

@@ -8,7 +8,7 @@ use lib.Ieee.Scale.{finite}
 use Rattle.float_order.specs.Value.{zero32}
 use Rattle.float_order.specs.KeyPart.{bins32, five-quarters, lowOf, highOf}
 use Rattle.key_hash.specs.Key.{keyOf}
-use Rattle.pattern_keys.specs.Keys.{keysOf}
+use Rattle.key_list.specs.Keys.{keysOf}
 
 abbrev pub five : (Float → ℕ) → List Float → List ℕ
 five f r = f (getD r 0 nan) ∷ f (getD r 1 nan) ∷ f (getD r 2 nan) ∷ f (getD r 3 nan) ∷ f (getD r 4 nan) ∷ []

@@ -4,7 +4,7 @@ use mathlib.Core.Path.{_≡_}
 use mathlib.Core.Logic.{_⊎_}
 use mathlib.Core.List.{List, [], _∷_}
 use lib.ListN.{getD}
-use Rattle.pattern_keys.specs.Keys.{far}
+use Rattle.key_list.specs.Keys.{far}
 
 -- k is one of the list
 pub data Has (k : List ℕ) : List (List ℕ) → Type 0 where

@@ -14,10 +14,10 @@ use borrow.Author.Tests.{lt-ltb, le-ltb}
 use lib.Dec.{ltb}
 use lib.ListN.{length, getD, set, length-append}
 use Rattle.float_order.proofs.Order.{lt-or-le}
-use Rattle.pattern_keys.specs.Keys.{flat, run, spread, level, start, inRange, apart, far, atDistance, nearer, farther, farthest, keysOf}
-use Rattle.pattern_keys.specs.Steps.{Narrow}
-use Rattle.pattern_keys.specs.Listed.{Has, here, there, Part}
-use Rattle.pattern_keys.proofs.Lists.{at-yes, at-no, level-length}
+use Rattle.key_list.specs.Keys.{flat, run, spread, level, start, inRange, apart, far, atDistance, nearer, farther, farthest, keysOf}
+use Rattle.key_list.specs.Steps.{Narrow}
+use Rattle.key_list.specs.Listed.{Has, here, there, Part}
+use Rattle.key_list.proofs.Lists.{at-yes, at-no, level-length}
 
 -- ---- how many
 -- 1 where a is below n, and else 0

@@ -7,10 +7,10 @@ use mathlib.Core.Bool.{Bool, true, false, cond}
 use mathlib.Core.List.{List, [], _∷_, _++_}
 use lib.Dec.{eqb}
 use lib.ListN.{getD, set}
-use Rattle.pattern_keys.specs.Keys.{flat, run, spread, level, start, inRange, far, atDistance, nearer, farthest, keysOf}
-use Rattle.pattern_keys.specs.Listed.{Has, here, there, Listed}
-use Rattle.pattern_keys.specs.Claims.{KeysAll, KeysOnly}
-use Rattle.pattern_keys.proofs.Laws.{keys-has}
+use Rattle.key_list.specs.Keys.{flat, run, spread, level, start, inRange, far, atDistance, nearer, farthest, keysOf}
+use Rattle.key_list.specs.Listed.{Has, here, there, Listed}
+use Rattle.key_list.specs.Claims.{KeysAll, KeysOnly}
+use Rattle.key_list.proofs.Laws.{keys-has}
 
 pub has-none : {k : List ℕ} → Has k [] → ⊥
 has-none h = elim h [ ]

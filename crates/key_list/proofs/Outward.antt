@@ -8,10 +8,10 @@ use mathlib.Core.List.{List, [], _∷_, _++_}
 use lib.Dec.{T, eqb, eqb→eq}
 use lib.ListN.{length, getD, set, length-set}
 use lib.Seq.{getD-set-same, getD-set-other}
-use Rattle.pattern_keys.specs.Keys.{flat, run, spread, level, start, inRange, apart, far, atDistance, nearer, farthest, keysOf}
-use Rattle.pattern_keys.specs.Listed.{Has, here, there, Before, Precedes, Ordered, ordered-none, ordered}
-use Rattle.pattern_keys.specs.Claims.{KeysOrdered, PrecedesAnother}
-use Rattle.pattern_keys.proofs.Exact.{has-none, has-one, has-split, flat-from, run-from, spread-from}
+use Rattle.key_list.specs.Keys.{flat, run, spread, level, start, inRange, apart, far, atDistance, nearer, farthest, keysOf}
+use Rattle.key_list.specs.Listed.{Has, here, there, Before, Precedes, Ordered, ordered-none, ordered}
+use Rattle.key_list.specs.Claims.{KeysOrdered, PrecedesAnother}
+use Rattle.key_list.proofs.Exact.{has-none, has-one, has-split, flat-from, run-from, spread-from}
 
 -- ---- ordered lists, one after the other
 joined : {R : List ℕ → List ℕ → Type 0} (l m : List (List ℕ)) → Ordered R l → Ordered R m → ((x y : List ℕ) → Has x l → Has y m → R x y) → Ordered R (l ++ m)

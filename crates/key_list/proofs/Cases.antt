@@ -1,7 +1,7 @@
 -- The document's case. Assumes nothing.
 use mathlib.Core.Path.{refl}
-use Rattle.pattern_keys.specs.Claims.{KeysCase}
-use Rattle.pattern_keys.specs.Keys.{flat, run, spread, inRange, apart, far, atDistance, nearer, farther, farthest, keysOf}
+use Rattle.key_list.specs.Claims.{KeysCase}
+use Rattle.key_list.specs.Keys.{flat, run, spread, inRange, apart, far, atDistance, nearer, farther, farthest, keysOf}
 
 -- keys 33333 to 44444, centre 33444
 pub keys-case : KeysCase

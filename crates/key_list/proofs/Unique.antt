@@ -6,11 +6,11 @@ use native.Mathlib.Omega.{arith}
 use mathlib.Core.List.{List, [], _∷_}
 use lib.ListN.{getD}
 use Rattle.float_order.proofs.Order.{lt-or-le}
-use Rattle.pattern_keys.specs.Keys.{keysOf}
-use Rattle.pattern_keys.specs.Listed.{Has, here, there, Before, Precedes, Ordered, ordered-none, ordered}
-use Rattle.pattern_keys.specs.Claims.{KeysUnique}
-use Rattle.pattern_keys.proofs.Exact.{has-none, keys-only, keys-all}
-use Rattle.pattern_keys.proofs.Outward.{keys-ordered}
+use Rattle.key_list.specs.Keys.{keysOf}
+use Rattle.key_list.specs.Listed.{Has, here, there, Before, Precedes, Ordered, ordered-none, ordered}
+use Rattle.key_list.specs.Claims.{KeysUnique}
+use Rattle.key_list.proofs.Exact.{has-none, keys-only, keys-all}
+use Rattle.key_list.proofs.Outward.{keys-ordered}
 
 -- ---- of two keys at most one comes before the other
 before-once : (n : ℕ) (k m : List ℕ) → Before n k m → Before n m k → ⊥

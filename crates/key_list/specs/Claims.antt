@@ -1,0 +1,33 @@
+-- What callers rest on, as statements; proofs/ has a proof of each under the name given beside it. Definitions only.
+use Prim.Native.Nat.{ℕ}
+use mathlib.Core.Path.{_≡_}
+use mathlib.Core.List.{List, [], _∷_}
+use Rattle.key_list.specs.Keys.{keysOf}
+use Rattle.key_list.specs.Listed.{Has, Listed, Precedes, Ordered}
+
+-- Every key in the ranges whose parts never fall is in the list: `keys-all`.
+abbrev pub KeysAll : Type 0
+KeysAll = (c lo hi k : List ℕ) → Listed lo hi k → Has k (keysOf c lo hi)
+
+-- and no other is: `keys-only`.
+abbrev pub KeysOnly : Type 0
+KeysOnly = (c lo hi k : List ℕ) → Has k (keysOf c lo hi) → Listed lo hi k
+
+-- "They are taken by squared distance to the image key, then lexicographically.": each comes before every later one, so none comes twice: `keys-ordered`.
+abbrev pub KeysOrdered : Type 0
+KeysOrdered = (c lo hi : List ℕ) → Ordered (Precedes c) (keysOf c lo hi)
+
+-- No key comes before itself: `precedes-another`.
+abbrev pub PrecedesAnother : Type 0
+PrecedesAnother = (c k : List ℕ) → Precedes c k k → ⊥
+
+-- So it is the only list in that order with just those keys: `keys-unique`.
+abbrev pub KeysUnique : Type 0
+KeysUnique = (c lo hi : List ℕ) (l : List (List ℕ)) → Ordered (Precedes c) l → ((k : List ℕ) → Has k l → Listed lo hi k) → ((k : List ℕ) → Listed lo hi k → Has k l) → l ≡ keysOf c lo hi
+
+-- "Keys 33333 to 44444, centre 33444: 33444, 33344, 34444, 33334, 44444, 33333.": `keys-case`.
+abbrev pub key : ℕ → ℕ → ℕ → ℕ → ℕ → List ℕ
+key a b c d e = a ∷ b ∷ c ∷ d ∷ e ∷ []
+
+abbrev pub KeysCase : Type 0
+KeysCase = keysOf (key 3 3 4 4 4) (key 3 3 3 3 3) (key 4 4 4 4 4) ≡ key 3 3 4 4 4 ∷ key 3 3 3 4 4 ∷ key 3 4 4 4 4 ∷ key 3 3 3 3 4 ∷ key 4 4 4 4 4 ∷ key 3 3 3 3 3 ∷ []
