@@ -1,6 +1,7 @@
 -- The key of rising ratios, and the paper's case. Assumes nothing.
 use Prim.Native.Nat.{ℕ, _≤_, _<_}
-use mathlib.Core.Path.{refl}
+use mathlib.Core.Path.{_≡_, refl}
+use mathlib.Core.List.{List, [], _∷_}
 use lib.ListN.{getD}
 use lib.Ieee.{Float, nan}
 use Rattle.float_order.specs.Value.{zero32, one32}
@@ -10,6 +11,10 @@ use Rattle.float_order.proofs.Intervals.{in-finite}
 use Rattle.float_order.proofs.KeyParts.{part-at-most, parts-never-fall}
 use Rattle.key_hash.specs.Key.{keyOf, hashOf, homeOf, markOf}
 use Rattle.key_hash.specs.Claims.{KeyParts, KeyRises, KeyCase}
+
+-- keys that are equal part by part
+pub same-five : {a b c d e a' b' c' d' e' : ℕ} → a ≡ a' → b ≡ b' → c ≡ c' → d ≡ d' → e ≡ e' → _≡_ {A = List ℕ} (a ∷ b ∷ c ∷ d ∷ e ∷ []) (a' ∷ b' ∷ c' ∷ d' ∷ e' ∷ [])
+same-five p q r s t = cc
 
 -- the part of one ratio is at most bins
 pub part-below : (r : Float) (B : ℕ) → Ratio r → 0 < B → B ≤ 4096 → partOf r B ≤ B

@@ -1,3 +1,4 @@
+pub mod Same
 pub mod Insertion
 pub mod Sorting
 pub mod Edges

@@ -32,9 +32,6 @@ pub bins-exact : (B : ℕ) → B ≤ 4096 → T (inFloat binary32 (pos B))
 unfolding inFloat
 bins-exact B h = le→leb B (2 ^ 24) (le-trans h (lit≤ tt))
 
-pub same-five : {a b c d e a' b' c' d' e' : ℕ} → a ≡ a' → b ≡ b' → c ≡ c' → d ≡ d' → e ≡ e' → _≡_ {A = List ℕ} (a ∷ b ∷ c ∷ d ∷ e ∷ []) (a' ∷ b' ∷ c' ∷ d' ∷ e' ∷ [])
-same-five p q r s t = cc
-
 pub small : (x y B : ℕ) → x ≡ y → y ≤ B → B ≤ 4096 → x < 65536
 small x y B e h k = omega arith
 

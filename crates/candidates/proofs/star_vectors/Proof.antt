@@ -1,3 +1,4 @@
+use Rattle.pattern.proofs.Same.{same-four}
 -- `candidates::star_vectors` meets its contract. Assumes nothing.
 use Rattle.candidates.specs.Tests.{starsOf}
 use borrow.Author.Needs.{needs}
@@ -30,7 +31,7 @@ star-vector-requires-4 c κs = search needs
 
 returns : tie.Need-returns
 unfolding starsOf
-returns c = cc
+returns c = same-four (c .before .before .before .before .before .before .star-vector .ensures) (c .before .before .before .before .star-vector2 .ensures) (c .before .before .star-vector3 .ensures) (c .star-vector4 .ensures)
 
 pub star-vectors-spec : {M : Type 1} → statement M
 star-vectors-spec =

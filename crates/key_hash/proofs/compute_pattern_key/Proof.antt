@@ -1,3 +1,4 @@
+use Rattle.key_hash.proofs.Keys.{same-five}
 use Rattle.key_hash.specs.Key.{keyOf}
 use borrow.Author.Needs.{needs}
 use Rattle.key_hash.proofs.compute_pattern_key.Statement.{statement}
@@ -35,7 +36,7 @@ key-part-requires-5 c κs = search needs
 
 returns : tie.Need-returns
 unfolding keyOf
-returns c = cc
+returns c = same-five (c .before .before .before .before .key-part .ensures) (c .before .before .before .key-part2 .ensures) (c .before .before .key-part3 .ensures) (c .before .key-part4 .ensures) (c .key-part5 .ensures)
 
 pub compute-pattern-key-spec : {M : Type 1} → statement M
 compute-pattern-key-spec =

@@ -1,3 +1,4 @@
+use Rattle.pattern.proofs.Same.{same-six}
 use Rattle.pattern.specs.Edges.{angles}
 use borrow.Author.Needs.{needs}
 use Rattle.pattern.proofs.angles.Statement.{statement}
@@ -35,7 +36,8 @@ angle-requires-6 c κs = search needs
 
 returns : tie.Need-returns
 unfolding angles
-returns c = cc
+returns c =
+    same-six (c .before .before .before .before .before .angle .ensures) (c .before .before .before .before .angle2 .ensures) (c .before .before .before .angle3 .ensures) (c .before .before .angle4 .ensures) (c .before .angle5 .ensures) (c .angle6 .ensures)
 
 pub angles-spec : {M : Type 1} → statement M
 angles-spec =
