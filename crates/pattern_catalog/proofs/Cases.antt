@@ -1,6 +1,6 @@
 -- Document 01's case, computed. Assumes nothing.
 use mathlib.Core.Path.{refl}
-use Rattle.pattern_catalog.specs.Blocks.{tableFits, bitAt, onesIn, place}
+use Rattle.table_blocks.specs.Blocks.{tableFits, bitAt, onesIn, place}
 use Rattle.pattern_entry.specs.Entry.{inSection}
 use Rattle.pattern_catalog.specs.SlotRead.{slotIn, slotRead}
 use Rattle.pattern_catalog.specs.Cases.{ranked, eight, RankFive, DamagedRank}

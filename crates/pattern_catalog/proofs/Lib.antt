@@ -1,4 +1,3 @@
-pub mod Ones
 pub mod Slots
 pub mod Parts
 pub mod Scan

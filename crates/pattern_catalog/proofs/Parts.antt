@@ -3,7 +3,7 @@ use Prim.Native.Nat.{ℕ}
 use mathlib.Core.Path.{_≡_, refl, sym, ap, _∙_}
 use native.Mathlib.Omega.{arith}
 use lib.ListN.{length}
-use Rattle.pattern_catalog.specs.Blocks.{place}
+use Rattle.table_blocks.specs.Blocks.{place}
 use Rattle.pattern_entry.specs.Entry.{bytesAt}
 use Rattle.pattern_catalog.specs.SlotRead.{slotRead, partOf}
 use Rattle.pattern_catalog.specs.Claims.{SlotSaysOnce, PartFilled, PartEmpty}

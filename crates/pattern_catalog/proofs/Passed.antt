@@ -11,7 +11,7 @@ use lib.ListN.{length, getD}
 use lib.Pow.{shr-le}
 use lib.Ieee.{Float}
 use Rattle.pattern_entry.specs.Ask.{ask, every}
-use Rattle.pattern_catalog.specs.Blocks.{blocksOf, tableFits, bitAt, filled, place}
+use Rattle.table_blocks.specs.Blocks.{blocksOf, tableFits, bitAt, filled, place}
 use Rattle.pattern_entry.specs.Stars.{starsFit}
 use Rattle.pattern_entry.specs.Entry.{bytesAt, inSection, entrySound}
 use Rattle.pattern_catalog.specs.Answers.{filledAt}

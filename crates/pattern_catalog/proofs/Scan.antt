@@ -11,7 +11,7 @@ use lib.Dec.{eqb}
 use lib.ListN.{length}
 use lib.Ieee.{Float}
 use Rattle.pattern_entry.specs.Ask.{ask, every}
-use Rattle.pattern_catalog.specs.Blocks.{blocksOf, tableFits, bitAt, filled, onesIn, rankOf, place}
+use Rattle.table_blocks.specs.Blocks.{blocksOf, tableFits, bitAt, filled, onesIn, rankOf, place}
 use Rattle.pattern_entry.specs.Stars.{starsFit, starCount}
 use Rattle.pattern_entry.specs.Entry.{bytesAt, inSection, entrySound}
 use Rattle.pattern_catalog.specs.Opening.{rankRight, tailClear, indexRight, slotSound, opening}
@@ -20,7 +20,7 @@ use Rattle.pattern_entry.specs.Shortcuts.{everyStar, indicesBelow}
 use Rattle.pattern_entry.proofs.StarSlice.{indices-sound-at}
 use Rattle.pattern_catalog.specs.declared.opening.Ranks.{Ranks}
 use Rattle.pattern_entry.proofs.Every.{every-suc, every-at, every-fails, every-same, both-l, both-r}
-use Rattle.pattern_catalog.proofs.Ones.{bit-le, ones-join, ones-suc}
+use Rattle.table_blocks.proofs.Ones.{bit-le, ones-join, ones-suc}
 
 -- ---- the packed entries
 

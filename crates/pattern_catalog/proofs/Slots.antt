@@ -8,12 +8,12 @@ use borrow.Author.Tests.{lt-ltb, le-ltb, le-leb, lt-leb, ltb-true, ltb-false, le
 use lib.Dec.{leb, ltb, eqb}
 use lib.ListN.{length}
 use Rattle.pattern_entry.specs.Ask.{ask}
-use Rattle.pattern_catalog.specs.Blocks.{blocksOf, tableFits, filled, place}
+use Rattle.table_blocks.specs.Blocks.{blocksOf, tableFits, filled, place}
 use Rattle.pattern_entry.specs.Entry.{inSection}
 use Rattle.pattern_catalog.specs.Answers.{Answer, filledAt, empty, refused}
 use Rattle.pattern_catalog.specs.SlotRead.{slotIn, slotRead}
-use Rattle.pattern_catalog.specs.Shortcuts.{rankedAt}
-use Rattle.pattern_catalog.specs.declared.blocks.Ranked.{Ranked}
+use Rattle.table_blocks.specs.Places.{rankedAt}
+use Rattle.table_blocks.specs.declared.Ranked.{Ranked}
 use Rattle.pattern_entry.proofs.Every.{both-l, both-r}
 
 -- ---- question 6
@@ -30,16 +30,6 @@ module _ (slots : ℕ) (words : List ℕ) (fits : tableFits slots words ≡ true
   -- the block of each slot is there: what `find_in` asks
   pub fits-block : (s : ℕ) → s < slots → s / 448 * 8 + 8 ≤ length words
   fits-block s h = omega (arith, fits-long)
-
--- ---- the place
-
-pub rank-out : (words : List ℕ) (s held : ℕ) → held ≤ place words s → Ranked.Outside ≡ rankedAt words s held
-unfolding rankedAt
-rank-out words s held h = simp (le-ltb _ _ h)
-
-pub rank-in : (words : List ℕ) (s held : ℕ) → place words s < held → Ranked.Inside (place words s) ≡ rankedAt words s held
-unfolding rankedAt
-rank-in words s held h = simp (lt-ltb _ _ h)
 
 -- ---- the read of a slot that exists
 

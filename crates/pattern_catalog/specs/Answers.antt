@@ -2,7 +2,7 @@
 use Prim.Native.Nat.{ℕ}
 use mathlib.Core.List.{List}
 use mathlib.Core.Option.{Option, none, some}
-use Rattle.pattern_catalog.specs.Blocks.{place}
+use Rattle.table_blocks.specs.Blocks.{place}
 use Rattle.pattern_catalog.specs.declared.Found.{Found}
 use Rattle.pattern_catalog.specs.declared.Slot.{Slot}
 use Rattle.pattern_catalog.specs.declared.Opened.{Opened}

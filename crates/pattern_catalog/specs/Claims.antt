@@ -6,7 +6,7 @@ use mathlib.Core.List.{List, []}
 use mathlib.Core.Option.{none}
 use lib.ListN.{length}
 use lib.Ieee.{Float}
-use Rattle.pattern_catalog.specs.Blocks.{filled, onesIn, place}
+use Rattle.table_blocks.specs.Blocks.{filled, onesIn, place}
 use Rattle.pattern_entry.specs.Entry.{bytesAt, entrySound}
 use Rattle.pattern_catalog.specs.Answers.{filledAt, empty, refused, slotSays}
 use Rattle.pattern_catalog.specs.SlotRead.{slotIn, slotRead, partOf}

@@ -1,4 +1,3 @@
-pub mod Blocks
 pub mod Answers
 pub mod SlotRead
 pub mod Opening

@@ -7,7 +7,7 @@ use lib.Dec.{eqb}
 use lib.ListN.{length}
 use lib.Ieee.{Float}
 use Rattle.pattern_entry.specs.Ask.{ask, every}
-use Rattle.pattern_catalog.specs.Blocks.{blocksOf, tableFits, bitAt, filled, onesIn, rankOf, place}
+use Rattle.table_blocks.specs.Blocks.{blocksOf, tableFits, bitAt, filled, onesIn, rankOf, place}
 use Rattle.pattern_entry.specs.Stars.{starsFit}
 use Rattle.pattern_entry.specs.Entry.{bytesAt, inSection, entrySound}
 

@@ -2,19 +2,13 @@
 use Prim.Native.Nat.{ℕ, _*_}
 use mathlib.Core.Bool.{Bool}
 use mathlib.Core.List.{List}
-use lib.Dec.{ltb}
 use lib.Ieee.{Float}
 use Rattle.pattern_entry.specs.Ask.{ask, every}
-use Rattle.pattern_catalog.specs.Blocks.{onesIn, place}
+use Rattle.table_blocks.specs.Blocks.{onesIn}
 use Rattle.pattern_entry.specs.Entry.{bytesAt, entrySound}
 use Rattle.pattern_entry.specs.Shortcuts.{indicesBelow}
 use Rattle.pattern_catalog.specs.Opening.{rankRight}
-use Rattle.pattern_catalog.specs.declared.blocks.Ranked.{Ranked}
 use Rattle.pattern_catalog.specs.declared.opening.Ranks.{Ranks}
-
--- the slot's place, where it is below the number of entries held
-unfoldable pub rankedAt : List ℕ → ℕ → ℕ → Ranked
-rankedAt words s held = ask (ltb (place words s) held) Ranked.Outside (Ranked.Inside (place words s))
 
 -- the ones of the first blocks, where their ranks are right
 unfoldable pub ranksRead : List ℕ → ℕ → Ranks

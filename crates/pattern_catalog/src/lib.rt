@@ -1,9 +1,7 @@
 // The pattern table as it is lent: the words of its blocks, the packed entries and the star vectors. The slot read, and the check that opens a table.
-mod blocks;
 mod opening;
 mod slot_read;
 
-pub use crate::blocks::table_fits;
 pub use crate::opening::open_check;
 pub use crate::slot_read::entry_of;
 pub use crate::slot_read::find;

@@ -6,10 +6,10 @@ ghost use Rattle.pattern_catalog.specs.Answers.{foundSays, slotSays};
 ghost use Rattle.pattern_catalog.specs.SlotRead.{slotIn, slotRead, partOf};
 use crate::Found;
 use crate::Slot;
-use crate::blocks::Ranked;
-use crate::blocks::bit;
-use crate::blocks::block_rank;
-use crate::blocks::table_fits;
+use table_blocks::Ranked;
+use table_blocks::bit;
+use table_blocks::block_rank;
+use table_blocks::table_fits;
 
 // The read of a slot whose block is there: 9 for the section where it is filled.
 pub fn find_in(words: &[u64], packed: &[u8], slot: u64) -> Found

@@ -9,7 +9,7 @@ use lib.Ieee.{Float}
 use Rattle.preprocess.specs.Questions.{centroidsFit, coordinatesFit, orderFits}
 use Rattle.passes.specs.Passes.{passesFit}
 use Rattle.pattern_entry.specs.Ask.{ask}
-use Rattle.pattern_catalog.specs.Blocks.{tableFits}
+use Rattle.table_blocks.specs.Blocks.{tableFits}
 use Rattle.pattern_entry.specs.Stars.{starsFit}
 use Rattle.search_feed.specs.Data.{Frame, frameOf}
 use Rattle.search_feed.specs.Claims.{Asked5, settingsOk}

@@ -11,7 +11,7 @@ use Rattle.preprocess.specs.Questions.{centroidsFit, coordinatesFit, orderFits}
 use Rattle.passes.specs.Passes.{passesFit}
 use Rattle.pattern_entry.specs.Ask.{ask}
 use Rattle.pattern_entry.specs.Stars.{starsFit}
-use Rattle.pattern_catalog.specs.Blocks.{tableFits}
+use Rattle.table_blocks.specs.Blocks.{tableFits}
 use Rattle.search_feed.specs.Claims.{settingsOk}
 use Rattle.pattern_catalog.proofs.Passed.{passed}
 use Rattle.undivided_run.specs.declared.State.{State}

@@ -10,7 +10,7 @@ use lib.Seq.{getD-take}
 use lib.Ieee.{Float}
 use Rattle.combinations.specs.Fours.{Rising}
 use Rattle.key_hash.specs.Key.{homeOf}
-use Rattle.pattern_catalog.specs.Blocks.{tableFits, filled as slotFilled, place}
+use Rattle.table_blocks.specs.Blocks.{tableFits, filled as slotFilled, place}
 use Rattle.pattern_catalog.proofs.Slots.{fits-few}
 use Rattle.pattern_entry.specs.Entry.{bytesAt, entryRead, entrySound}
 use Rattle.candidates.specs.declared.Candidate.{Candidate}

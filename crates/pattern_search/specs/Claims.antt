@@ -8,7 +8,7 @@ use mathlib.Core.Option.{none, some}
 use lib.Ieee.{Float}
 use Rattle.key_hash.specs.Key.{markOf}
 use Rattle.pattern.specs.Edges.{edgesOf}
-use Rattle.pattern_catalog.specs.Blocks.{filled, place}
+use Rattle.table_blocks.specs.Blocks.{filled, place}
 use Rattle.pattern_entry.specs.Entry.{bytesAt, entryRead}
 use Rattle.candidates.specs.Tests.{starsOf, measuredOf}
 use Rattle.candidates.specs.Claims.{Agrees}

@@ -45,7 +45,7 @@ pub fn first_seven(
     if !passes::passes_fit(passes) {
         return Asked::No(5);
     }
-    if !pattern_catalog::table_fits(slots, words) {
+    if !table_blocks::table_fits(slots, words) {
         return Asked::No(6);
     }
     if !pattern_entry::stars_fit(stars) {

@@ -13,7 +13,7 @@ use Rattle.key_hash.specs.Key.{homeOf, markOf}
 use Rattle.pattern_entry.specs.Ask.{ask}
 use Rattle.pattern_entry.specs.Entry.{bytesAt, inSection, entryRead, entrySound}
 use Rattle.pattern_entry.specs.declared.PatternEntry.{PatternEntry}
-use Rattle.pattern_catalog.specs.Blocks.{filled, place}
+use Rattle.table_blocks.specs.Blocks.{filled, place}
 use Rattle.pattern_catalog.specs.Answers.{filledAt, empty, refused, foundSays}
 use Rattle.pattern_catalog.specs.SlotRead.{slotIn}
 use Rattle.pattern_catalog.specs.declared.Found.{Found}

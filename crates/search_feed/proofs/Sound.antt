@@ -5,7 +5,7 @@ use native.Mathlib.Omega.{arith}
 use native.Mathlib.Decide.{decLe}
 use mathlib.Core.Bool.{Bool, true, false, cond}
 use mathlib.Core.Option.{none, some}
-use Rattle.pattern_catalog.specs.Blocks.{filled, place}
+use Rattle.table_blocks.specs.Blocks.{filled, place}
 use Rattle.pattern_catalog.proofs.Passed.{passed-filled, passed-past}
 use Rattle.pattern_entry.specs.Entry.{bytesAt, entrySound}
 use Rattle.undivided_run.specs.Undivided.{cases}

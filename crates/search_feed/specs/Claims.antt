@@ -6,7 +6,7 @@ use Rattle.preprocess.specs.Questions.{centroidsFit, coordinatesFit, orderFits}
 use Rattle.tolerance.specs.Tolerances.{settingsFit}
 use Rattle.search_feed.specs.declared.SearchConfig.{SearchConfig}
 use Rattle.passes.specs.Passes.{passesFit}
-use Rattle.pattern_catalog.specs.Blocks.{tableFits}
+use Rattle.table_blocks.specs.Blocks.{tableFits}
 use Rattle.pattern_catalog.specs.Opening.{opening}
 use Rattle.undivided_run.specs.Exists.{Keyed, Within, Opened}
 use Rattle.search_feed.specs.Data.{Frame, Data}

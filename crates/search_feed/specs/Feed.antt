@@ -8,7 +8,7 @@ use lib.Ieee.{Float}
 use Rattle.combinations.specs.declared.Four.{Four}
 use Rattle.preprocess.specs.declared.Place.{Place}
 use Rattle.key_hash.specs.Key.{homeOf, markOf}
-use Rattle.pattern_catalog.specs.Blocks.{filled, place}
+use Rattle.table_blocks.specs.Blocks.{filled, place}
 use Rattle.pattern_entry.specs.Entry.{bytesAt, entryRead, entrySound}
 use Rattle.candidates.specs.Tests.{testOf, rebuildOf}
 use Rattle.candidates.specs.declared.Candidate.{Candidate}

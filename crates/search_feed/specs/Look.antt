@@ -9,7 +9,7 @@ use Rattle.combinations.specs.declared.Four.{Four}
 use Rattle.preprocess.specs.declared.Place.{Place}
 use Rattle.key_hash.specs.Key.{markOf}
 use Rattle.pattern_entry.specs.declared.StarIndex.{StarIndex}
-use Rattle.pattern_catalog.specs.Blocks.{filled, place}
+use Rattle.table_blocks.specs.Blocks.{filled, place}
 use Rattle.pattern_entry.specs.Entry.{star, bytesAt, entryRead, entrySound}
 use Rattle.candidates.specs.Tests.{testOf, rebuildOf}
 use Rattle.candidates.specs.declared.Image.{Image}

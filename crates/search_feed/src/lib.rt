@@ -6,7 +6,7 @@ ghost use mathlib.Core.List.{List};
 ghost use Prim.Native.Nat.{ℕ, _+_, _*_, _/_, _%_, _≤_, _<_};
 ghost use lib.ListN.{length, getD};
 ghost use Rattle.pattern.specs.Directions.{Directions};
-ghost use Rattle.pattern_catalog.specs.Blocks.{tableFits};
+ghost use Rattle.table_blocks.specs.Blocks.{tableFits};
 ghost use Rattle.pattern_entry.specs.Entry.{bytesAt};
 ghost use Rattle.key_hash.specs.Key.{homeOf};
 ghost use Rattle.combinations.specs.Fours.{sameFour};

@@ -6,10 +6,10 @@ use mathlib.Core.Bool.{true}
 use native.Mathlib.Omega.{arith}
 use borrow.Author.Needs.{needs}
 use Rattle.pattern_catalog.specs.Opening.{rankRight}
-use Rattle.pattern_catalog.specs.Blocks.{onesIn}
+use Rattle.table_blocks.specs.Blocks.{onesIn}
 use Rattle.pattern_entry.specs.Ask.{every}
 use Rattle.pattern_catalog.proofs.Scan.{block-more, ranks-wrong, ranks-right}
-use Rattle.pattern_catalog.proofs.Ones.{ones-le}
+use Rattle.table_blocks.proofs.Ones.{ones-le}
 use Rattle.pattern_catalog.specs.declared.opening.Ranks.{Ranks}
 use Rattle.pattern_catalog.proofs.opening.ranks_of.Statement.{statement}
 use Rattle.pattern_catalog.proofs.opening.ranks_of.Tie as tie

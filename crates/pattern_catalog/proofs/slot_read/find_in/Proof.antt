@@ -1,6 +1,6 @@
 use mathlib.Core.Path.{sym, _∙_}
 use borrow.Author.Tests.{not-true, not-false}
-use Rattle.pattern_catalog.specs.Blocks.{bitAt}
+use Rattle.table_blocks.specs.Blocks.{bitAt}
 use Rattle.pattern_catalog.proofs.Slots.{in-empty, in-ranked}
 use borrow.Author.Needs.{needs}
 use Rattle.pattern_catalog.proofs.slot_read.find_in.Statement.{statement}

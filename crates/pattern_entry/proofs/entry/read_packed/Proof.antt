@@ -1,3 +1,6 @@
+use mathlib.Core.Path.{_∙_, ap}
+use lib.Ieee.{binary32, ofBits}
+use Rattle.pattern_entry.proofs.Bytes.{same-entry}
 use borrow.Author.Needs.{needs}
 use Rattle.pattern_entry.proofs.entry.read_packed.Statement.{statement}
 use Rattle.pattern_entry.proofs.entry.read_packed.Tie as tie
@@ -24,7 +27,14 @@ half-requires : tie.Need-half-requires
 half-requires c κs = search needs
 
 returns : tie.Need-returns
-returns c = cc
+returns c =
+    same-entry
+    (c .before .before .before .before .before .before .word .ensures)
+    (c .before .before .before .before .before .word2 .ensures)
+    (c .before .before .before .before .word3 .ensures)
+    (c .before .before .before .word4 .ensures)
+    (c .before .from-bits .ensures ∙ ap (ofBits binary32) (c .before .before .word5 .ensures))
+    (c .half .ensures)
 
 pub read-packed-spec : {M : Type 1} → statement M
 read-packed-spec =

@@ -1,0 +1,85 @@
+// The blocks: 8 words each, a rank and 7 words of occupancy for 448 slots.
+ghost use mathlib.Core.Path.{_≡_};
+ghost use Prim.Native.Nat.{_+_, _*_, _/_, _%_, _^_, _≤_, _<_};
+ghost use lib.ListN.{length};
+ghost use lib.Dec.{eqb};
+ghost use lib.Count.{ones};
+ghost use Rattle.table_blocks.specs.Blocks.{onesIn, tableFits};
+ghost use Rattle.table_blocks.specs.Places.{rankedAt};
+
+// A place below the number of entries held, or none.
+pub enum Ranked {
+    Inside(u64),
+    Outside,
+}
+
+// Question 6: at most 2^24 slots, and 8 words for each begun block of 448.
+pub fn table_fits(slots: u64, words: &[u64]) -> bool
+    ensures { λ r. ⌜ r ≡ tableFits slots (now (words .entry)) ⌝ }
+{
+    if slots > 16777216 {
+        return false;
+    }
+    words.len() as u64 == (slots + 447) / 448 * 8
+}
+
+// Bit b of a word, the lowest being 0.
+pub fn bit(w: u64, b: u32) -> bool
+    requires { ⌜ b < 64 ⌝ }
+    ensures { λ r. ⌜ r ≡ eqb (w / 2 ^ b % 2) 1 ⌝ }
+{
+    (w >> b) % 2 == 1
+}
+
+// The ones of a word.
+fn ones_of(w: u64) -> u64
+    ensures { λ r. ⌜ (r ≡ ones w) × (r ≤ 64) ⌝ }
+{
+    u64::count_ones(w) as u64
+}
+
+// The ones of a word's bits below b.
+fn ones_below(w: u64, b: u32) -> u64
+    requires { ⌜ b < 64 ⌝ }
+    ensures { λ r. ⌜ (r ≡ ones (w % 2 ^ b)) × (r ≤ 64) ⌝ }
+{
+    let p = 1u64 << b;
+    ones_of(w % p)
+}
+
+// The ones of a block's first n slots: whole words, then what is left of n.
+pub fn ones_in(words: &[u64], block: usize, n: usize) -> u64
+    requires { ⌜ (block * 8 + 8 ≤ length (now words)) × (n ≤ 448) ⌝ }
+    ensures { λ r. ⌜ r ≡ onesIn (now (words .entry)) (block * 448) n ⌝ }
+{
+    let first = block * 8 + 1;
+    let whole = n / 64;
+    let mut sum: u64 = 0;
+    let mut k: usize = 0;
+    while k < whole {
+        sum += ones_of(words[first + k]);
+        k += 1;
+    }
+    if whole == 7 {
+        return sum;
+    }
+    sum + ones_below(words[first + whole], (n % 64) as u32)
+}
+
+// The slot's place, its rank plus the ones below it in its block, where that is below held.
+pub fn block_rank(words: &[u64], slot: usize, held: u64) -> Ranked
+    requires { ⌜ slot / 448 * 8 + 8 ≤ length (now words) ⌝ }
+    ensures { λ r. ⌜ r ≡ rankedAt (now (words .entry)) slot held ⌝ }
+{
+    let block = slot / 448;
+    let at = block * 8;
+    let rank = words[at];
+    let below = ones_in(words, block, slot % 448);
+    if rank >= held {
+        return Ranked::Outside;
+    }
+    if below >= held - rank {
+        return Ranked::Outside;
+    }
+    Ranked::Inside(rank + below)
+}
