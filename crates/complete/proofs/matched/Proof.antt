@@ -1,4 +1,6 @@
 -- `complete::matched` meets its contract. Assumes nothing.
+use mathlib.Core.Path.{_∙_, ap}
+use Rattle.centroid_order.specs.CentroidOrder.{inOrder}
 use Rattle.centroid_order.proofs.Order.{order-positions}
 use Rattle.complete.specs.Completing.{matchedOf}
 use borrow.Author.Needs.{needs}
@@ -13,7 +15,7 @@ in-order-requires c κs = rw (c .sort-pattern-by-centroid-distance .ensures) (or
 
 returns : tie.Need-returns
 unfolding matchedOf
-returns c = cc
+returns c = c .in-order .ensures ∙ ap (inOrder _) (c .before .sort-pattern-by-centroid-distance .ensures)
 
 pub matched-spec : {M : Type 1} → statement M
 matched-spec =

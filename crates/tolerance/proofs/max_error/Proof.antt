@@ -1,4 +1,6 @@
 -- `tolerance::max_error` meets its contract. Assumes nothing.
+use mathlib.Core.Path.{_∙_, ap₂}
+use Rattle.float_order.specs.Choice.{smaller}
 use borrow.Author.Needs.{needs}
 use lib.Dec.{le→leb, lit≤}
 use native.Mathlib.Nat.{le-trans}
@@ -22,7 +24,7 @@ smaller-requires c κs = search needs
 
 returns : tie.Need-returns
 unfolding toleranceOf
-returns c = cc
+returns c = c .smaller .ensures ∙ ap₂ smaller (c .before .wanted .ensures) (c .before .before .larger .ensures)
 
 pub max-error-spec : {M : Type 1} → statement M
 max-error-spec =
