@@ -7,7 +7,7 @@ use lib.ListN.{getD}
 use lib.Ieee.{Float, nan, binary32, ofBits, add, sub, mul, div, lt}
 use lib.Ieee.Scale.{finite}
 use Rattle.float.specs.Magnitude.{magnitudeOf}
-use Rattle.passes.specs.Passes.{pi32}
+use Rattle.float_order.specs.Value.{pi32}
 use Rattle.pattern.specs.Edges.{edgesOf, ratiosOf}
 use Rattle.pattern_entry.specs.declared.StarIndex.{StarIndex}
 use Rattle.pattern_entry.specs.declared.PatternEntry.{PatternEntry}

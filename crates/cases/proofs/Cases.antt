@@ -12,7 +12,7 @@ use Rattle.preprocess.proofs.Units.{spot as spot-case}
 use Rattle.undivided_run.specs.Undivided.{isSome, slotOf, filled, chain}
 use Rattle.cases.specs.Cases.{slotsRead, EveryCase}
 
-probes-of-ten : slotsRead ≡ 1 ∷ 2 ∷ 5 ∷ 0 ∷ 7 ∷ 6 ∷ 7 ∷ 0 ∷ 5 ∷ 2 ∷ []
+pub probes-of-ten : slotsRead ≡ 1 ∷ 2 ∷ 5 ∷ 0 ∷ 7 ∷ 6 ∷ 7 ∷ 0 ∷ 5 ∷ 2 ∷ []
 unfolding slotOf chain filled isSome
 probes-of-ten = refl
 

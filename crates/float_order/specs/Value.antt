@@ -2,7 +2,7 @@
 use Prim.Native.Nat.{ℕ, _+_, _*_, _≤_, _<_}
 use mathlib.Core.Bool.{Bool, true, false}
 use lib.IntN.{pos}
-use lib.Ieee.{Float, nan, inf, fin, up}
+use lib.Ieee.{Float, nan, inf, fin, up, binary32, ofBits}
 use lib.Ieee.Positive.{den}
 
 -- +0
@@ -12,6 +12,10 @@ zero32 = fin false 0 (pos 0)
 -- 1
 abbrev pub one32 : Float
 one32 = fin false 1 (pos 0)
+
+-- f32 pi, the f32 nearest to pi
+abbrev pub pi32 : Float
+pi32 = ofBits binary32 0x4049_0FDB
 
 -- the whole number n as a float
 abbrev pub at : ℕ → Float

@@ -6,8 +6,8 @@ use mathlib.Core.Bool.{true, false, cond, _&&_}
 use mathlib.Core.List.{[], _∷_, _++_}
 use lib.ListN.{length, length-append}
 use lib.Ieee.{Float, binary32, add, sub, lt, le}
-use Rattle.float_order.specs.Value.{zero32}
-use Rattle.fov_sweep.specs.Sweep.{pi, pairAt, pairsFrom}
+use Rattle.float_order.specs.Value.{zero32, pi32}
+use Rattle.fov_sweep.specs.Sweep.{pairAt, pairsFrom}
 use Rattle.fov_sweep.proofs.Offsets.{pair-some, pair-few}
 
 -- the values of an offset, by the test
@@ -22,7 +22,7 @@ pair-one estimate offset h = rw h
 -- the list from an offset on, by the tests, where an offset may be taken
 module _ (estimate reach step offset : Float) (k : ℕ) (some : 0 < k) where
   pairs-step : pairsFrom k estimate reach step offset
-      ≡ cond (le offset reach && lt (add binary32 estimate offset) pi)
+      ≡ cond (le offset reach && lt (add binary32 estimate offset) pi32)
       (pairAt estimate offset ++ cond (le (add binary32 offset step) offset) [] (pairsFrom (k - 1) estimate reach step (add binary32 offset step)))
       []
   unfolding pairsFrom
@@ -32,10 +32,10 @@ module _ (estimate reach step offset : Float) (k : ℕ) (some : 0 < k) where
   out-of-reach h = pairs-step ∙ (rw h)
 
   module _ (h : le offset reach ≡ true) where
-    pub at-pi : lt (add binary32 estimate offset) pi ≡ false → pairsFrom k estimate reach step offset ≡ []
+    pub at-pi : lt (add binary32 estimate offset) pi32 ≡ false → pairsFrom k estimate reach step offset ≡ []
     at-pi u = pairs-step ∙ (rw (h, u))
 
-    module _ (u : lt (add binary32 estimate offset) pi ≡ true) where
+    module _ (u : lt (add binary32 estimate offset) pi32 ≡ true) where
       pub a-pair : pairsFrom k estimate reach step offset ≡ pairAt estimate offset ++ cond (le (add binary32 offset step) offset) [] (pairsFrom (k - 1) estimate reach step (add binary32 offset step))
       a-pair = pairs-step ∙ (rw (h, u))
 
@@ -84,10 +84,10 @@ module _ (estimate reach step : Float) (room n : ℕ) (offset : Float) (c : Coun
     counted-out t = nothing-left (out-of-reach estimate reach step offset (c .k) some t)
 
     module _ (t : le offset reach ≡ true) where
-      pub counted-pi : lt (add binary32 estimate offset) pi ≡ false → min n (room + 1) ≡ min (length (estimate ∷ pairsFrom room estimate reach step step)) (room + 1)
+      pub counted-pi : lt (add binary32 estimate offset) pi32 ≡ false → min n (room + 1) ≡ min (length (estimate ∷ pairsFrom room estimate reach step step)) (room + 1)
       counted-pi u = nothing-left (at-pi estimate reach step offset (c .k) some t u)
 
-      module _ (u : lt (add binary32 estimate offset) pi ≡ true) where
+      module _ (u : lt (add binary32 estimate offset) pi32 ≡ true) where
         pub counted-last : le (add binary32 offset step) offset ≡ true → min (n + length (pairAt estimate offset)) (room + 1) ≡ min (length (estimate ∷ pairsFrom room estimate reach step step)) (room + 1)
         counted-last w =
             rest (length (pairAt estimate offset))

@@ -6,12 +6,12 @@ use mathlib.Core.Bool.{Bool, true, false, cond, _&&_}
 use mathlib.Core.List.{[], _∷_, _++_}
 use lib.ListN.{length, length-append}
 use lib.Ieee.{Float, binary32, add, sub, lt, le}
-use Rattle.float_order.specs.Value.{zero32}
+use Rattle.float_order.specs.Value.{zero32, pi32}
 use Rattle.float_order.specs.Choice.{smaller}
 use Rattle.float_order.proofs.Order.{holds, lt-not-le}
 use Rattle.tolerance.specs.declared.Tolerance.{Tolerance}
 use Rattle.tolerance.specs.declared.Tolerance.the-variants.{Given, Absent}
-use Rattle.fov_sweep.specs.Sweep.{pi, pairAt, pairsFrom, reachOf, besideOf, sweepOf}
+use Rattle.fov_sweep.specs.Sweep.{pairAt, pairsFrom, reachOf, besideOf, sweepOf}
 use Rattle.fov_sweep.specs.Claims.{MoreOffsets}
 
 -- an offset gives 1 or 2 values
@@ -34,7 +34,7 @@ module _ (estimate reach step : Float) where
   longer zero k offset h = omega arith
   longer (suc j) zero offset h = absurd (omega arith)
   longer (suc j) (suc k) offset h =
-      by (le offset reach && lt (add binary32 estimate offset) pi) (le (add binary32 offset step) offset) (longer j k (add binary32 offset step) (omega arith))
+      by (le offset reach && lt (add binary32 estimate offset) pi32) (le (add binary32 offset step) offset) (longer j k (add binary32 offset step) (omega arith))
     where
       by : (b d : Bool) → length (pairsFrom j estimate reach step (add binary32 offset step)) ≤ length (pairsFrom k estimate reach step (add binary32 offset step))
           → length (cond b (pairAt estimate offset ++ cond d [] (pairsFrom j estimate reach step (add binary32 offset step))) [])
@@ -49,7 +49,7 @@ module _ (estimate reach step : Float) where
   same zero k offset h s = absurd (omega arith)
   same (suc j) zero offset h s = absurd (omega arith)
   same (suc j) (suc k) offset h s =
-      by (le offset reach && lt (add binary32 estimate offset) pi) (le (add binary32 offset step) offset) s (same j k (add binary32 offset step) (omega arith))
+      by (le offset reach && lt (add binary32 estimate offset) pi32) (le (add binary32 offset step) offset) s (same j k (add binary32 offset step) (omega arith))
     where
       by : (b d : Bool)
           → length (cond b (pairAt estimate offset ++ cond d [] (pairsFrom j estimate reach step (add binary32 offset step))) []) < suc j
@@ -66,11 +66,11 @@ unfolding sweepOf
 more-offsets k room estimate (Given x) step h = by (lt zero32 x)
   where
     by : (b : Bool)
-        → (suc (length (cond b (pairsFrom room estimate (smaller x pi) step step) [])) ≤ room → estimate ∷ cond b (pairsFrom k estimate (smaller x pi) step step) [] ≡ estimate ∷ cond b (pairsFrom room estimate (smaller x pi) step step) [])
-        × (room < suc (length (cond b (pairsFrom room estimate (smaller x pi) step step) [])) → room < suc (length (cond b (pairsFrom k estimate (smaller x pi) step step) [])))
+        → (suc (length (cond b (pairsFrom room estimate (smaller x pi32) step step) [])) ≤ room → estimate ∷ cond b (pairsFrom k estimate (smaller x pi32) step step) [] ≡ estimate ∷ cond b (pairsFrom room estimate (smaller x pi32) step step) [])
+        × (room < suc (length (cond b (pairsFrom room estimate (smaller x pi32) step step) [])) → room < suc (length (cond b (pairsFrom k estimate (smaller x pi32) step step) [])))
     by true = (
-      (λ s. ap (estimate ∷_) (same estimate (smaller x pi) step room k step h s)),
-      (λ s. omega (arith, longer estimate (smaller x pi) step room k step h)),
+      (λ s. ap (estimate ∷_) (same estimate (smaller x pi32) step room k step h s)),
+      (λ s. omega (arith, longer estimate (smaller x pi32) step room k step h)),
     )
     by false = ((λ s. refl), (λ s. s))
 more-offsets k room estimate Absent step h = ((λ s. refl), (λ s. s))
@@ -81,14 +81,14 @@ unfolding pairsFrom
 none-reached zero estimate step h = refl
 none-reached (suc k) estimate step h = by (le step zero32) refl
   where
-    by : (b : Bool) → le step zero32 ≡ b → cond (b && lt (add binary32 estimate step) pi) (pairAt estimate step ++ cond (le (add binary32 step step) step) [] (pairsFrom k estimate zero32 step (add binary32 step step))) [] ≡ []
+    by : (b : Bool) → le step zero32 ≡ b → cond (b && lt (add binary32 estimate step) pi32) (pairAt estimate step ++ cond (le (add binary32 step step) step) [] (pairsFrom k estimate zero32 step (add binary32 step step))) [] ≡ []
     by true e = absurd (lt-not-le zero32 step (holds (lt zero32 step) h) (holds (le step zero32) e))
     by false e = refl
 
 pub beside-reach : (k : ℕ) (estimate : Float) (error : Tolerance) (step : Float) → lt zero32 step ≡ true → pairsFrom k estimate (reachOf error) step step ≡ besideOf k estimate error step
 beside-reach k estimate (Given x) step h = by (lt zero32 x)
   where
-    by : (b : Bool) → pairsFrom k estimate (cond b (smaller x pi) zero32) step step ≡ cond b (pairsFrom k estimate (smaller x pi) step step) []
+    by : (b : Bool) → pairsFrom k estimate (cond b (smaller x pi32) zero32) step step ≡ cond b (pairsFrom k estimate (smaller x pi32) step step) []
     by true = refl
     by false = none-reached k estimate step h
 beside-reach k estimate Absent step h = none-reached k estimate step h

@@ -8,10 +8,10 @@ use borrow.Author.Tests.{le-leb, lt-leb}
 use lib.ListN.{length, drop}
 use lib.Ieee.{Float, lt}
 use lib.Ieee.Scale.{finite}
-use Rattle.float_order.specs.Value.{zero32}
+use Rattle.float_order.specs.Value.{zero32, pi32}
 use Rattle.tolerance.specs.Tolerances.{optionFits}
 use Rattle.tolerance.specs.declared.Tolerance.{Tolerance}
-use Rattle.fov_sweep.specs.Sweep.{pi, pairsFrom, reachOf, sweepOf, sweepFits, listFits, sweptOf, laterOf}
+use Rattle.fov_sweep.specs.Sweep.{pairsFrom, reachOf, sweepOf, sweepFits, listFits, sweptOf, laterOf}
 use Rattle.fov_sweep.proofs.Offsets.{beside-reach}
 use Rattle.fov_sweep.specs.declared.Swept.the-variants.{Values, Refused}
 
@@ -32,7 +32,7 @@ module _ (estimate : Float) (error : Tolerance) (step : Float) (d : List Float) 
     step-above : lt zero32 step ≡ true
     unfolding sweepFits
     step-above =
-        let a = lt zero32 estimate && lt estimate pi in
+        let a = lt zero32 estimate && lt estimate pi32 in
         let b = finite step && lt zero32 step in
         right (finite step) (lt zero32 step) (right a b (left (a && b) (optionFits error) fits))
 

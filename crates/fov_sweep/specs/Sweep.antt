@@ -6,7 +6,7 @@ use lib.Dec.{leb}
 use lib.ListN.{length, drop}
 use lib.Ieee.{Float, binary32, ofBits, add, sub, lt, le}
 use lib.Ieee.Scale.{finite}
-use Rattle.float_order.specs.Value.{zero32}
+use Rattle.float_order.specs.Value.{zero32, pi32}
 use Rattle.float_order.specs.Choice.{smaller}
 use Rattle.tolerance.specs.Tolerances.{optionFits}
 use Rattle.tolerance.specs.declared.Tolerance.{Tolerance}
@@ -14,13 +14,9 @@ use Rattle.tolerance.specs.declared.Tolerance.the-variants.{Given, Absent}
 use Rattle.fov_sweep.specs.declared.Swept.{Swept}
 use Rattle.fov_sweep.specs.declared.Swept.the-variants.{Values, Refused}
 
--- f32 pi
-abbrev pub pi : Float
-pi = ofBits binary32 0x4049_0FDB
-
 -- 12: "estimate above 0 and below f32 pi, step finite and above 0, error finite or absent?"
 unfoldable pub sweepFits : Float → Tolerance → Float → Bool
-sweepFits estimate error step = (lt zero32 estimate && lt estimate pi) && (finite step && lt zero32 step) && optionFits error
+sweepFits estimate error step = (lt zero32 estimate && lt estimate pi32) && (finite step && lt zero32 step) && optionFits error
 
 -- the values at an offset: "estimate + offset and, if above 0, estimate − offset"
 unfoldable pub pairAt : Float → Float → List Float
@@ -34,19 +30,19 @@ unfoldable pub pairsFrom : ℕ → Float → Float → Float → Float → List 
 unfolding pairAt
 pairsFrom zero estimate reach step offset = []
 pairsFrom (suc k) estimate reach step offset =
-    cond (le offset reach && lt (add binary32 estimate offset) pi)
+    cond (le offset reach && lt (add binary32 estimate offset) pi32)
     (pairAt estimate offset
     ++ cond (le (add binary32 offset step) offset) [] (pairsFrom k estimate reach step (add binary32 offset step)))
     []
 
 -- the error cut to pi; an absent one, and one not above 0, reaches no offset
 abbrev pub reachOf : Tolerance → Float
-reachOf (Given x) = cond (lt zero32 x) (smaller x pi) zero32
+reachOf (Given x) = cond (lt zero32 x) (smaller x pi32) zero32
 reachOf Absent = zero32
 
 -- what the estimate is followed by: nothing where the error is absent or not above 0. The first offset is the step.
 abbrev pub besideOf : ℕ → Float → Tolerance → Float → List Float
-besideOf k estimate (Given x) step = cond (lt zero32 x) (pairsFrom k estimate (smaller x pi) step step) []
+besideOf k estimate (Given x) step = cond (lt zero32 x) (pairsFrom k estimate (smaller x pi32) step step) []
 besideOf k estimate Absent step = []
 
 -- "Given a step: the estimate, then estimate + offset and, if above 0, estimate − offset"

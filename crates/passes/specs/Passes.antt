@@ -5,11 +5,8 @@ use mathlib.Core.List.{List}
 use lib.Dec.{leb, eqb}
 use lib.ListN.{length, getD}
 use lib.Ieee.{Float, nan, binary32, ofBits, neg, le, lt}
+use Rattle.float_order.specs.Value.{pi32}
 use Rattle.passes.specs.declared.Pass.{Pass}
-
--- f32 pi
-abbrev pub pi32 : Float
-pi32 = ofBits binary32 0x4049_0FDB
 
 -- a field of view "above 0 and below f32 pi"
 unfoldable pub fieldFits : Float → Bool

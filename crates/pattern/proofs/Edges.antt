@@ -1,5 +1,5 @@
 -- The laws of the edges and ratios of four directions whose components are finite and of magnitude at most 2 ^ 20.
---   edges-rise         the six edges rise, and each lies from 0 to `halfTurn`, the f32 nearest to pi, so it is finite
+--   edges-rise         the six edges rise, and each lies from 0 to `pi32`, the f32 nearest to pi, so it is finite
 --   edges-permuted     they are the six angles, sorted
 --   edge-ratios-rise   the five ratios of such edges rise, and each lies from 0 to 1
 --   directions-ratios  the ratios of four such directions are `Ratios`, as the keys ask
@@ -19,7 +19,7 @@ use lib.Ieee.Scale.{finite}
 use Rattle.square_root.proofs.Laws.{root-not-below, root-finite}
 use Rattle.arc.specs.Arc.{quarterTurn}
 use Rattle.arc.proofs.Laws.{arc-in}
-use Rattle.float_order.specs.Value.{zero32, one32}
+use Rattle.float_order.specs.Value.{zero32, one32, pi32}
 use Rattle.float_order.specs.Choice.{smaller}
 use Rattle.float_order.specs.Interval.{In}
 use Rattle.float_order.specs.Rising.{Rising, rises-none, rises-one, rises, Between, between-none, between}
@@ -31,7 +31,7 @@ use Rattle.float_order.proofs.Intervals.{in-finite, in-wider, in-add, in-sub, i
 use Rattle.float_order.proofs.Risings.{rising-at, between-at}
 use Rattle.pattern.specs.Sort.{sorted, Each, each-none, each, Chained, chained-none, chained-one, chained}
 use Rattle.pattern.specs.Edges.{nought, one, squared, squaredDistance, distance, angleOf, angle, angles, edgesOf, shares, noughts, ratiosOf}
-use Rattle.pattern.specs.Directions.{halfTurn, Small, Unit, Direction}
+use Rattle.pattern.specs.Directions.{Small, Unit, Direction}
 use Rattle.pattern.specs.Claims.{EdgesRise, EdgesPermuted, EdgeRatiosRise, DirectionsRatios, UnitDirectionsSuffice}
 use Rattle.pattern.proofs.Insertion.{sorted-length}
 use Rattle.pattern.proofs.Sorting.{Comparable, Ready, ready-none, ready, each-map, sorted-perm, sorted-each, sorted-chained}
@@ -113,21 +113,21 @@ half-in d h p =
     let k = mul-nonneg binary32 (fin false 1 (negsuc 0)) d tt p tt h in
     record { low = smaller-reaches zero32 x one32 k tt; high = smaller-right x one32 (le-right zero32 x k) tt }
 
-angle-in : (d : Float) → T (le zero32 d) → T (finite d) → In zero32 halfTurn (angleOf d)
+angle-in : (d : Float) → T (le zero32 d) → T (finite d) → In zero32 pi32 (angleOf d)
 unfolding angleOf ofBits mul le
 angle-in d h p =
     let x = smaller (mul binary32 (fin false 1 (negsuc 0)) d) one32 in
-    in-wider zero32 halfTurn tt tt
+    in-wider zero32 pi32 tt tt
     (in-mul-up binary32 {b = fin false 1 (pos 1)} {d = quarterTurn} {x = fin false 1 (pos 1)} tt tt (record { low = tt; high = tt }) (arc-in x (half-in d h p)))
 
-between-two : (a b : List Float) → Direction Small a → Direction Small b → In zero32 halfTurn (angle a b)
+between-two : (a b : List Float) → Direction Small a → Direction Small b → In zero32 pi32 (angle a b)
 between-two a b p q = let d = distance-ok a b p q in angle-in (distance a b) (d .0) (d .1)
 
 -- ---- the edges
 pub edges-rise : EdgesRise
 unfolding edgesOf angles
 edges-rise v d =
-    let r = sorted-rises zero32 halfTurn (angles v)
+    let r = sorted-rises zero32 pi32 (angles v)
     (between (between-two (getD v 0 []) (getD v 1 []) (d .first) (d .second))
     (between (between-two (getD v 0 []) (getD v 2 []) (d .first) (d .third))
     (between (between-two (getD v 0 []) (getD v 3 []) (d .first) (d .fourth))
@@ -143,14 +143,14 @@ noughts-rise =
     let i : In zero32 one32 nought = record { low = tt; high = tt } in
     (rises tt (rises tt (rises tt (rises tt (rises-one nought)))), between i (between i (between i (between i (between i between-none)))))
 
-shares-rise : (e : List Float) → length e ≡ 6 → Rising e → Between zero32 halfTurn e → T (lt nought (getD e 5 nan)) → Rising (shares e) × Between zero32 one32 (shares e)
+shares-rise : (e : List Float) → length e ≡ 6 → Rising e → Between zero32 pi32 e → T (lt nought (getD e 5 nan)) → Rising (shares e) × Between zero32 one32 (shares e)
 unfolding shares ofBits
 shares-rise e six r b t =
     let d : ℕ → Float = λ i. div binary32 (getD e i nan) (getD e 5 nan) in
     let up : (i : ℕ) → suc i < 6 → T (le (getD e i nan) (getD e (suc i) nan)) = λ i h. rising-at e i (omega arith) r in
     let a = ratios-rise-in binary32 (getD e 0 nan) (getD e 1 nan) (getD e 2 nan) (getD e 3 nan) (getD e 4 nan) (getD e 5 nan)
-    (between-at zero32 halfTurn e 0 (omega arith) b .low) (up 0 (omega arith)) (up 1 (omega arith)) (up 2 (omega arith)) (up 3 (omega arith)) (up 4 (omega arith))
-    (in-finite {a = zero32} {b = halfTurn} tt tt (between-at zero32 halfTurn e 5 (omega arith) b)) t in
+    (between-at zero32 pi32 e 0 (omega arith) b .low) (up 0 (omega arith)) (up 1 (omega arith)) (up 2 (omega arith)) (up 3 (omega arith)) (up 4 (omega arith))
+    (in-finite {a = zero32} {b = pi32} tt tt (between-at zero32 pi32 e 5 (omega arith) b)) t in
     let l1 = le-through zero32 (d 0) (d 1) (a .0) (a .1) in
     let l2 = le-through zero32 (d 1) (d 2) l1 (a .2) in
     let l3 = le-through zero32 (d 2) (d 3) l2 (a .3) in

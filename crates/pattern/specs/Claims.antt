@@ -3,11 +3,11 @@ use mathlib.Core.Path.{_≡_}
 use mathlib.Core.List.{List, List·Permᴰ}
 use lib.ListN.{length}
 use lib.Ieee.{Float}
-use Rattle.float_order.specs.Value.{zero32, one32}
+use Rattle.float_order.specs.Value.{zero32, one32, pi32}
 use Rattle.float_order.specs.Rising.{Rising, Between}
 use Rattle.float_order.specs.Ratios.{Ratios}
 use Rattle.pattern.specs.Edges.{angles, edgesOf, ratiosOf}
-use Rattle.pattern.specs.Directions.{halfTurn, Directions, UnitDirections}
+use Rattle.pattern.specs.Directions.{Directions, UnitDirections}
 
 -- Directions with components of magnitude at most 1 are `Directions`: `unit-directions`.
 abbrev pub UnitDirectionsSuffice : Type 0
@@ -15,7 +15,7 @@ UnitDirectionsSuffice = (v : List (List Float)) → UnitDirections v → Directi
 
 -- The six edges rise, each from 0 to the f32 nearest to pi, so finite and not negative: `edges-rise`.
 abbrev pub EdgesRise : Type 0
-EdgesRise = (v : List (List Float)) → Directions v → Rising (edgesOf v) × Between zero32 halfTurn (edgesOf v) × (length (edgesOf v) ≡ 6)
+EdgesRise = (v : List (List Float)) → Directions v → Rising (edgesOf v) × Between zero32 pi32 (edgesOf v) × (length (edgesOf v) ≡ 6)
 
 -- The edges are the six angles, in another order, whatever these are: `edges-permuted`.
 abbrev pub EdgesPermuted : Type 0
@@ -23,7 +23,7 @@ EdgesPermuted = (v : List (List Float)) → List·Permᴰ (edgesOf v) (angles v)
 
 -- The ratios of sorted edges rise within [0, 1]: `edge-ratios-rise`.
 abbrev pub EdgeRatiosRise : Type 0
-EdgeRatiosRise = (e : List Float) → length e ≡ 6 → Rising e → Between zero32 halfTurn e → Rising (ratiosOf e) × Between zero32 one32 (ratiosOf e)
+EdgeRatiosRise = (e : List Float) → length e ≡ 6 → Rising e → Between zero32 pi32 e → Rising (ratiosOf e) × Between zero32 one32 (ratiosOf e)
 
 -- So the ratios of four directions are what the keys ask for: `directions-ratios`.
 abbrev pub DirectionsRatios : Type 0

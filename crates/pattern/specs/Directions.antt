@@ -3,13 +3,9 @@ use mathlib.Core.Bool.{true, false}
 use mathlib.Core.List.{List, []}
 use lib.IntN.{pos}
 use lib.ListN.{getD}
-use lib.Ieee.{Float, nan, binary32, ofBits, fin}
+use lib.Ieee.{Float, nan, fin}
 use Rattle.float_order.specs.Value.{one32}
 use Rattle.float_order.specs.Interval.{In}
-
--- the f32 nearest to pi
-abbrev pub halfTurn : Float
-halfTurn = ofBits binary32 0x4049_0FDB
 
 -- a component: finite, and of magnitude at most 2 ^ 20. A star's is at most 1 (question 9), and so is a unit vector's but for its rounding.
 abbrev pub Small : Float → Type 0

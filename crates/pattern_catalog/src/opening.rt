@@ -6,12 +6,12 @@ ghost use Rattle.pattern_catalog.specs.Answers.{openedSays};
 ghost use Rattle.pattern_catalog.specs.Opening.{tailClear, indexRight, opening};
 ghost use Rattle.pattern_catalog.specs.Shortcuts.{ranksRead, allSound, allBelow};
 use crate::Opened;
-use table_blocks::ones_in;
-use table_blocks::table_fits;
 use pattern_entry::entry_sound_at;
 use pattern_entry::every_star_sound;
 use pattern_entry::indices_below_at;
 use pattern_entry::stars_fit;
+use table_blocks::ones_in;
+use table_blocks::table_fits;
 
 // The ones of all blocks, where every rank is right.
 pub enum Ranks {

@@ -11,7 +11,7 @@ use lib.Seq.{getD-take}
 use lib.Ieee.{Float, nan, binary32, inFloat}
 use lib.Ieee.Scale.{finite}
 use Rattle.float_order.specs.Value.{zero32, one32}
-use Rattle.float_order.specs.KeyPart.{partOf, lowOf, highOf}
+use Rattle.float_order.specs.KeyPart.{partOf, lowOf, highOf, NarrowTolerance}
 use Rattle.float_order.specs.Ratios.{Ratio, Ratios}
 use Rattle.float_order.proofs.KeyParts.{image-part-in-range, upper-at-most}
 use Rattle.float_order.proofs.PartWidth.{at-most-four-values}
@@ -20,7 +20,7 @@ use Rattle.key_hash.specs.Key.{keyOf, hashOf, Parts}
 use Rattle.key_hash.proofs.Keys.{part-below, key-rises, key-parts as image-parts}
 use Rattle.key_list.specs.Steps.{Narrow, Holds}
 use Rattle.pattern_keys.specs.Steps.{HashesOf, Hashed, AllParts}
-use Rattle.pattern_keys.specs.Ranges.{lowerOf, upperOf, keysFor, Tolerance}
+use Rattle.pattern_keys.specs.Ranges.{lowerOf, upperOf, keysFor}
 use Rattle.key_list.specs.Listed.{Has, here, there, Listed, Precedes, Ordered, ordered}
 use Rattle.pattern_keys.specs.Claims.{KeysCount, ImageListed, ImageFirst, KeyListed, ListedParts}
 use Rattle.key_list.proofs.Laws.{keys-length, has-some}
@@ -35,30 +35,30 @@ bins-exact B h = le→leb B (2 ^ 24) (le-trans h (lit≤ tt))
 pub small : (x y B : ℕ) → x ≡ y → y ≤ B → B ≤ 4096 → x < 65536
 small x y B e h k = omega arith
 
-module _ (r e : Float) (B : ℕ) (i : Ratio r) (t : Tolerance e B) where
+module _ (r e : Float) (B : ℕ) (i : Ratio r) (t : NarrowTolerance e B) where
   R : T (finite r)
   R = in-finite {a = zero32} {b = one32} tt tt (i .unit)
 
   pub low-image : lowOf r e B ≤ partOf r B
-  low-image = image-part-in-range r e B (i .held) (i .unit .low) (i .unit .high) (t .e-finite) (t .e-low) (t .some) (t .few) .0
+  low-image = image-part-in-range r e B (i .held) (i .unit .low) (i .unit .high) (t .held) (t .low) (t .some-bins) (t .few-bins) .0
 
   pub image-high : partOf r B ≤ highOf r e B
-  image-high = image-part-in-range r e B (i .held) (i .unit .low) (i .unit .high) (t .e-finite) (t .e-low) (t .some) (t .few) .1
+  image-high = image-part-in-range r e B (i .held) (i .unit .low) (i .unit .high) (t .held) (t .low) (t .some-bins) (t .few-bins) .1
 
   pub high-bound : highOf r e B ≤ B
-  high-bound = upper-at-most r e B R (t .e-finite) (t .some) (t .few)
+  high-bound = upper-at-most r e B R (t .held) (t .some-bins) (t .few-bins)
 
   pub low-bound : lowOf r e B ≤ B
-  low-bound = le-trans low-image (part-below r B i (t .some) (t .few))
+  low-bound = le-trans low-image (part-below r B i (t .some-bins) (t .few-bins))
 
   pub range-narrow : (highOf r e B ≤ lowOf r e B + 3) × (highOf r e B < 65535)
-  range-narrow = (at-most-four-values r e B R (t .e-finite) (i .unit .low) (i .unit .high) (t .e-low) (t .some) (t .few) (t .narrow), within (highOf r e B) B high-bound (t .few))
+  range-narrow = (at-most-four-values r e B R (t .held) (i .unit .low) (i .unit .high) (t .low) (t .some-bins) (t .few-bins) (t .product), within (highOf r e B) B high-bound (t .few-bins))
     where
       within : (h b : ℕ) → h ≤ b → b ≤ 4096 → h < 65535
       within h b p q = omega arith
 
 -- every part has at most 4 values
-pub ranges-narrow : (r : List Float) (e : Float) (B : ℕ) → Ratios r → Tolerance e B → Narrow (lowerOf r e B) (upperOf r e B)
+pub ranges-narrow : (r : List Float) (e : Float) (B : ℕ) → Ratios r → NarrowTolerance e B → Narrow (lowerOf r e B) (upperOf r e B)
 unfolding lowerOf upperOf
 ranges-narrow r e B i t =
     record {
@@ -69,7 +69,7 @@ ranges-narrow r e B i t =
       fifth = range-narrow (getD r 4 nan) e B (i .fifth) t;
     }
 
-image-in-ranges : (r : List Float) (e : Float) (B : ℕ) → Ratios r → Tolerance e B → Listed (lowerOf r e B) (upperOf r e B) (keyOf r B)
+image-in-ranges : (r : List Float) (e : Float) (B : ℕ) → Ratios r → NarrowTolerance e B → Listed (lowerOf r e B) (upperOf r e B) (keyOf r B)
 unfolding keyOf lowerOf upperOf
 image-in-ranges r e B i t =
     record {
@@ -79,7 +79,7 @@ image-in-ranges r e B i t =
       s = partOf (getD r 3 nan) B;
       t = partOf (getD r 4 nan) B;
       is = refl;
-      rises = key-rises r B i (t .some) (t .few);
+      rises = key-rises r B i (t .some-bins) (t .few-bins);
       first = (low-image (getD r 0 nan) e B (i .first) t, image-high (getD r 0 nan) e B (i .first) t);
       second = (low-image (getD r 1 nan) e B (i .second) t, image-high (getD r 1 nan) e B (i .second) t);
       third = (low-image (getD r 2 nan) e B (i .third) t, image-high (getD r 2 nan) e B (i .third) t);
@@ -116,12 +116,12 @@ pub key-listed : KeyListed
 unfolding keysFor
 key-listed r e B i h = keys-only (keyOf r B) (lowerOf r e B) (upperOf r e B) (getD (keysFor r e B) i []) (has-at (keysFor r e B) i h)
 
-parts-of : (r : List Float) (e : Float) (B : ℕ) → Ratios r → Tolerance e B → (k : List ℕ) → Listed (lowerOf r e B) (upperOf r e B) k → Parts k B
+parts-of : (r : List Float) (e : Float) (B : ℕ) → Ratios r → NarrowTolerance e B → (k : List ℕ) → Listed (lowerOf r e B) (upperOf r e B) k → Parts k B
 unfolding lowerOf upperOf
 parts-of r e B i t k l =
     subst (λ (y : List ℕ). Parts y B) (sym (l .is))
     (record {
-      few = t .few;
+      few = t .few-bins;
       first = le-trans (l .first .1) (high-bound (getD r 0 nan) e B (i .first) t);
       second = le-trans (l .second .1) (high-bound (getD r 1 nan) e B (i .second) t);
       third = le-trans (l .third .1) (high-bound (getD r 2 nan) e B (i .third) t);
@@ -140,7 +140,7 @@ image-small r B k i p l e = let h = subst (λ (y : List ℕ). Parts y B) (sym e)
 at-front : (a : List (List ℕ)) (n : ℕ) (l : List (List ℕ)) (i : ℕ) → Holds a n l → i < n → getD a i [] ≡ getD l i []
 at-front a n l i h k = sym (getD-take n a i [] k) ∙ ap (λ (y : List (List ℕ)). getD y i []) (h .front)
 
-pub held-parts : (r : List Float) (e : Float) (B : ℕ) (a : List (List ℕ)) (n : ℕ) → Ratios r → Tolerance e B → Holds a n (keysFor r e B) → AllParts a n B
+pub held-parts : (r : List Float) (e : Float) (B : ℕ) (a : List (List ℕ)) (n : ℕ) → Ratios r → NarrowTolerance e B → Holds a n (keysFor r e B) → AllParts a n B
 held-parts r e B a n i t h =
     record {
       each = λ j k. subst (λ (y : List ℕ). Parts y B) (sym (at-front a n (keysFor r e B) j h k)) (listed-parts r e B i t j (omega (arith, h .count)));

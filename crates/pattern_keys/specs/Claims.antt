@@ -4,25 +4,26 @@ use mathlib.Core.Path.{_≡_}
 use mathlib.Core.List.{List, []}
 use lib.ListN.{length, getD}
 use lib.Ieee.{Float}
+use Rattle.float_order.specs.KeyPart.{NarrowTolerance}
 use Rattle.float_order.specs.Ratios.{Ratios}
 use Rattle.key_hash.specs.Key.{keyOf, Parts}
 use Rattle.key_list.specs.Listed.{Has, Listed}
-use Rattle.pattern_keys.specs.Ranges.{keysFor, lowerOf, upperOf, Tolerance}
+use Rattle.pattern_keys.specs.Ranges.{keysFor, lowerOf, upperOf}
 
 -- At least one key, and at most 1,024: `keys-count`.
 abbrev pub KeysCount : Type 0
-KeysCount = (r : List Float) (e : Float) (B : ℕ) → Ratios r → Tolerance e B → (0 < length (keysFor r e B)) × (length (keysFor r e B) ≤ 1024)
+KeysCount = (r : List Float) (e : Float) (B : ℕ) → Ratios r → NarrowTolerance e B → (0 < length (keysFor r e B)) × (length (keysFor r e B) ≤ 1024)
 
 -- The image key is in the list, and it is the first: `image-listed`, `image-first`.
 abbrev pub ImageListed : Type 0
-ImageListed = (r : List Float) (e : Float) (B : ℕ) → Ratios r → Tolerance e B → Has (keyOf r B) (keysFor r e B)
+ImageListed = (r : List Float) (e : Float) (B : ℕ) → Ratios r → NarrowTolerance e B → Has (keyOf r B) (keysFor r e B)
 
 abbrev pub ImageFirst : Type 0
-ImageFirst = (r : List Float) (e : Float) (B : ℕ) → Ratios r → Tolerance e B → getD (keysFor r e B) 0 [] ≡ keyOf r B
+ImageFirst = (r : List Float) (e : Float) (B : ℕ) → Ratios r → NarrowTolerance e B → getD (keysFor r e B) 0 [] ≡ keyOf r B
 
 -- Each key listed has five parts in their ranges that never fall, none above bins: `key-listed`, `listed-parts`.
 abbrev pub KeyListed : Type 0
 KeyListed = (r : List Float) (e : Float) (B : ℕ) → (i : ℕ) → i < length (keysFor r e B) → Listed (lowerOf r e B) (upperOf r e B) (getD (keysFor r e B) i [])
 
 abbrev pub ListedParts : Type 0
-ListedParts = (r : List Float) (e : Float) (B : ℕ) → Ratios r → Tolerance e B → (i : ℕ) → i < length (keysFor r e B) → Parts (getD (keysFor r e B) i []) B
+ListedParts = (r : List Float) (e : Float) (B : ℕ) → Ratios r → NarrowTolerance e B → (i : ℕ) → i < length (keysFor r e B) → Parts (getD (keysFor r e B) i []) B

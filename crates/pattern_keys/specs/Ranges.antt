@@ -1,12 +1,9 @@
 -- The ranges of keys of five ratios, and the list of keys that a search takes. Definitions only.
-use Prim.Native.Nat.{ℕ, _≤_, _<_}
+use Prim.Native.Nat.{ℕ}
 use mathlib.Core.List.{List, [], _∷_}
-use lib.Dec.{T}
 use lib.ListN.{getD}
-use lib.Ieee.{Float, nan, binary32, mul, le}
-use lib.Ieee.Scale.{finite}
-use Rattle.float_order.specs.Value.{zero32}
-use Rattle.float_order.specs.KeyPart.{bins32, five-quarters, lowOf, highOf}
+use lib.Ieee.{Float, nan}
+use Rattle.float_order.specs.KeyPart.{lowOf, highOf}
 use Rattle.key_hash.specs.Key.{keyOf}
 use Rattle.key_list.specs.Keys.{keysOf}
 
@@ -24,11 +21,3 @@ upperOf r e B = five (λ (x : Float). highOf x e B) r
 -- the keys of five ratios, in order; the image key is the ratios' own
 unfoldable pub keysFor : List Float → Float → ℕ → List (List ℕ)
 keysFor r e B = keysOf (keyOf r B) (lowerOf r e B) (upperOf r e B)
-
--- a tolerance e and a number of bins that question 4 lets pass
-pub record Tolerance (e : Float) (B : ℕ) : Type 0 where
-  pub e-finite : T (finite e)
-  pub e-low : T (le zero32 e)
-  pub some : 0 < B
-  pub few : B ≤ 4096
-  pub narrow : T (le (mul binary32 e (bins32 B)) five-quarters)

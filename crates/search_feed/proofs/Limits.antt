@@ -10,7 +10,7 @@ use Rattle.passes.proofs.Laws.{passes-fitting}
 use Rattle.tolerance.specs.Claims.{Fitting}
 use Rattle.tolerance.proofs.Settings.{settings-fitting}
 use Rattle.pattern_catalog.proofs.Slots.{fits-few}
-use Rattle.pattern_keys.specs.Ranges.{Tolerance}
+use Rattle.float_order.specs.KeyPart.{NarrowTolerance}
 use Rattle.pattern_keys.proofs.Ranges.{keys-count}
 use Rattle.search_feed.specs.Data.{Frame}
 use Rattle.search_feed.specs.Image.{toleranceIn, keysIn, keptPlaces, imageAt}
@@ -22,10 +22,8 @@ use Rattle.search_feed.proofs.Spots.{kept-few, image-ratios}
 abbrev pub fitting : (c : SearchConfig) → settingsOk c ≡ true → Fitting (c .bins) (c .checking) (c .error) (c .radius) (c .matching) (c .fov)
 fitting c h = settings-fitting (c .bins) (c .checking) (c .error) (c .radius) (c .matching) (c .fov) h
 
-pub tolerance-of : (c : SearchConfig) → settingsOk c ≡ true → Tolerance (toleranceIn c) (c .bins)
-tolerance-of c h =
-    let n = fitting c h .narrow in
-    record { e-finite = n .held; e-low = n .low; some = n .some-bins; few = n .few-bins; narrow = n .product }
+pub tolerance-of : (c : SearchConfig) → settingsOk c ≡ true → NarrowTolerance (toleranceIn c) (c .bins)
+tolerance-of c h = fitting c h .narrow
 
 module _ (F : Frame) (a : Asked5 F) (i : ℕ) (h : i < length (F .passes) / 3) (q : Four) (r : Rising (length (keptPlaces F i)) q) where
   pub keys-counted : (0 < length (keysIn (F .config) (imageAt F i q))) × (length (keysIn (F .config) (imageAt F i q)) ≤ 1024)

@@ -7,17 +7,9 @@ use lib.Dec.{T}
 use lib.Ieee.{Float, fin, binary32, mul, div, le}
 use lib.Ieee.Scale.{finite}
 use Rattle.float_order.specs.Value.{zero32, one32}
-use Rattle.float_order.specs.KeyPart.{bins32, five-quarters}
+use Rattle.float_order.specs.KeyPart.{bins32, NarrowTolerance}
 use Rattle.tolerance.specs.Tolerances.{toleranceOf, optionFits, settingsFit}
 use Rattle.tolerance.specs.declared.Tolerance.{Tolerance}
-
--- what `at-most-four-values` and `image-part-in-range` of float_order ask of a tolerance and a number of bins
-pub record Narrow (e : Float) (bins : ℕ) : Type 0 where
-  pub held : T (finite e)
-  pub low : T (le zero32 e)
-  pub some-bins : 0 < bins
-  pub few-bins : bins ≤ 4096
-  pub product : T (le (mul binary32 e (bins32 bins)) five-quarters)
 
 -- settings that question 4 lets through
 pub record Fitting (bins stars : ℕ) (table radius : Float) (own field : Tolerance) : Type 0 where
@@ -28,7 +20,7 @@ pub record Fitting (bins stars : ℕ) (table radius : Float) (own field : Tolera
   pub radius-low : T (le zero32 radius)
   pub own-fits : T (optionFits own)
   pub field-fits : T (optionFits field)
-  pub narrow : Narrow (toleranceOf own table bins) bins
+  pub narrow : NarrowTolerance (toleranceOf own table bins) bins
 
 -- Past question 4 the settings are such: `settings-fitting`.
 abbrev pub SettingsFitting : Type 0

@@ -1,18 +1,14 @@
--- Document 01's case of ten slots, and small runs that hold its rules of statuses against the definitions. Assumes nothing.
+-- Small runs that hold document 01's rules of statuses against the definitions. Assumes nothing.
 use mathlib.Core.Path.{_≡_, refl}
-use Prim.Native.Nat.{ℕ, _+_, _*_, _%_}
+use Prim.Native.Nat.{ℕ, _+_, _*_}
 use mathlib.Core.List.{List, [], _∷_, map}
 use mathlib.Core.Bool.{true, cond}
 use mathlib.Core.Option.{none, some}
 use lib.ListN.{length, getD}
 use lib.Dec.{eqb}
-use Rattle.combinations.specs.declared.Four.{Four}
 use Rattle.combinations.specs.Fours.{fours, foursOf}
 use Rattle.combinations.specs.Lists.{each, span, upto}
 use Rattle.undivided_run.specs.Undivided.{Status, TooFew, NoMatch, Timeout, Feed, Cap, absent, given, reached, isZero, isSome, ended, _before_, slotOf, filled, chain, readsOf, checked, combinations, passesFrom, undivided}
-
-abbrev four : ℕ → ℕ → ℕ → ℕ → Four
-four a b c d = record { a = a; b = b; c = c; d = d }
 
 -- A table of the slots given, 1 filled and 0 empty; each combination has two keys, with homes 1 and 4; an entry at slot 5 is a candidate.
 abbrev feed : List ℕ → List ℕ → Feed ℕ ℕ
@@ -31,11 +27,6 @@ feed kept table =
 
 abbrev full : List ℕ
 full = 1 ∷ 1 ∷ 1 ∷ 1 ∷ 1 ∷ 1 ∷ 1 ∷ 1 ∷ 1 ∷ 1 ∷ []
-
--- Home 1 of 10 slots, none empty: 1, 2, 5, 0, 7, 6, 7, 0, 5, 2.
-pub probes-of-ten : map (slotOf (feed (4 ∷ []) full)) (chain (feed (4 ∷ []) full) 0 (four 0 1 2 3) 0 10 0) ≡ 1 ∷ 2 ∷ 5 ∷ 0 ∷ 7 ∷ 6 ∷ 7 ∷ 0 ∷ 5 ∷ 2 ∷ []
-unfolding slotOf chain filled isSome
-probes-of-ten = refl
 
 abbrev pub runs : List ℕ → List ℕ → Cap → ℕ × Status
 runs kept table cap = (length ((undivided (feed kept table) cap) .reads), (undivided (feed kept table) cap) .status)

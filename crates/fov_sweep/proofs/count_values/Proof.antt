@@ -3,7 +3,7 @@ use Prim.Native.Nat.{_+_, _-_}
 use native.Mathlib.Omega.{arith}
 use borrow.Author.Needs.{needs}
 use borrow.Author.Tests.{not-true, not-false}
-use Rattle.fov_sweep.specs.Sweep.{pi}
+use Rattle.float_order.specs.Value.{pi32}
 use Rattle.fov_sweep.proofs.Counting.{Counted, counted-start, counted-past, counted-out, counted-pi, counted-last, counted-on}
 use Rattle.fov_sweep.proofs.Offsets.{pair-some, pair-few}
 use lib.Ieee.{lt, le, add, binary32}
@@ -29,7 +29,7 @@ returns-2 : tie.Need-returns-2 Inv-loop μ-loop
 returns-2 c =
     let l = c .before .before .before .loop in
     let a = c .before .before .before .before .args in
-    counted-pi (a .estimate) (a .reach) (a .step) (a .room) (l .n) (l .offset) (l .inv) (c .before .before .loop-test .taken) (not-false (le (l .offset) (a .reach)) (c .before .if1 .left)) (not-true (lt (add binary32 (a .estimate) (l .offset)) pi) (c .if2 .taken))
+    counted-pi (a .estimate) (a .reach) (a .step) (a .room) (l .n) (l .offset) (l .inv) (c .before .before .loop-test .taken) (not-false (le (l .offset) (a .reach)) (c .before .if1 .left)) (not-true (lt (add binary32 (a .estimate) (l .offset)) pi32) (c .if2 .taken))
 
 pair-count-requires : tie.Need-pair-count-requires Inv-loop μ-loop
 pair-count-requires c κs = search needs
@@ -45,7 +45,7 @@ returns-3 c =
     let l = c .before .before .before .before .before .loop in
     let a = c .before .before .before .before .before .before .args in
     rw (c .before .pair-count .ensures)
-    (counted-last (a .estimate) (a .reach) (a .step) (a .room) (l .n) (l .offset) (l .inv) (c .before .before .before .before .loop-test .taken) (not-false (le (l .offset) (a .reach)) (c .before .before .before .if1 .left)) (not-false (lt (add binary32 (a .estimate) (l .offset)) pi) (c .before .before .if2 .left)) (c .if3 .taken))
+    (counted-last (a .estimate) (a .reach) (a .step) (a .room) (l .n) (l .offset) (l .inv) (c .before .before .before .before .loop-test .taken) (not-false (le (l .offset) (a .reach)) (c .before .before .before .if1 .left)) (not-false (lt (add binary32 (a .estimate) (l .offset)) pi32) (c .before .before .if2 .left)) (c .if3 .taken))
 
 loop-less : tie.Need-loop-less Inv-loop μ-loop
 loop-less c =
@@ -58,7 +58,7 @@ loop-again c =
     let l = c .before .before .before .before .before .loop in
     let a = c .before .before .before .before .before .before .args in
     rw (c .before .pair-count .ensures)
-    (counted-on (a .estimate) (a .reach) (a .step) (a .room) (l .n) (l .offset) (l .inv) (c .before .before .before .before .loop-test .taken) (not-false (le (l .offset) (a .reach)) (c .before .before .before .if1 .left)) (not-false (lt (add binary32 (a .estimate) (l .offset)) pi) (c .before .before .if2 .left)) (c .if3 .left))
+    (counted-on (a .estimate) (a .reach) (a .step) (a .room) (l .n) (l .offset) (l .inv) (c .before .before .before .before .loop-test .taken) (not-false (le (l .offset) (a .reach)) (c .before .before .before .if1 .left)) (not-false (lt (add binary32 (a .estimate) (l .offset)) pi32) (c .before .before .if2 .left)) (c .if3 .left))
 
 returns-4 : tie.Need-returns-4 Inv-loop μ-loop
 returns-4 c =

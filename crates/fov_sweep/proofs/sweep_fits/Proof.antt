@@ -3,9 +3,9 @@ use mathlib.Core.Path.{_≡_, _∙_, sym}
 use mathlib.Core.Bool.{true}
 use borrow.Author.Needs.{needs}
 use borrow.Author.Tests.{not-true, not-false}
-use Rattle.fov_sweep.specs.Sweep.{pi, sweepFits}
+use Rattle.fov_sweep.specs.Sweep.{sweepFits}
 use lib.Ieee.{ofBits, lt}
-use Rattle.float_order.specs.Value.{zero32}
+use Rattle.float_order.specs.Value.{zero32, pi32}
 use lib.Ieee.Scale.{finite}
 use Rattle.fov_sweep.proofs.sweep_fits.Statement.{statement}
 use Rattle.fov_sweep.proofs.sweep_fits.Tie as tie
@@ -15,8 +15,8 @@ passed-1 : (c : tie.Else1) → lt zero32 (c .before .args .estimate) ≡ true
 unfolding ofBits
 passed-1 c = not-false (lt zero32 (c .before .args .estimate)) (c .if1 .left)
 
-passed-2 : (c : tie.Else2) → lt (c .before .before .args .estimate) pi ≡ true
-passed-2 c = not-false (lt (c .before .before .args .estimate) pi) (c .if2 .left)
+passed-2 : (c : tie.Else2) → lt (c .before .before .args .estimate) pi32 ≡ true
+passed-2 c = not-false (lt (c .before .before .args .estimate) pi32) (c .if2 .left)
 
 passed-3 : (c : tie.Else3) → finite (c .before .before .before .before .args .step) ≡ true
 passed-3 c = sym (c .before .is-finite .ensures) ∙ not-false _ (c .if3 .left)
@@ -31,7 +31,7 @@ returns c = simp (not-true (lt zero32 (c .before .args .estimate)) (c .if1 .take
 
 returns-2 : tie.Need-returns-2
 unfolding sweepFits
-returns-2 c = simp (passed-1 (c .before), not-true (lt (c .before .before .args .estimate) pi) (c .if2 .taken))
+returns-2 c = simp (passed-1 (c .before), not-true (lt (c .before .before .args .estimate) pi32) (c .if2 .taken))
 
 is-finite-requires : tie.Need-is-finite-requires
 is-finite-requires c κs = search needs

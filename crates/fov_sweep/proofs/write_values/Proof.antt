@@ -4,7 +4,7 @@ use mathlib.Core.Path.{sym, subst}
 use native.Mathlib.Omega.{arith}
 use borrow.Author.Tests.{not-true, not-false}
 use lib.ListN.{length}
-use Rattle.fov_sweep.specs.Sweep.{pi}
+use Rattle.float_order.specs.Value.{pi32}
 use Rattle.fov_sweep.proofs.Counting.{out-of-reach, at-pi, a-pair, last-pair, next-pair}
 use Rattle.fov_sweep.proofs.Offsets.{pair-some}
 use lib.Ieee.{lt, add, binary32}
@@ -45,7 +45,7 @@ returns c =
     let w = l .inv .1 in
     let m = at-most (a .estimate) (a .reach) (a .step) _ (l .out) (l .at) (l .offset) (l .inv .0) w in
     let some : 0 < l .inv .0 = omega (arith, l .inv .2) in
-    all-written (a .estimate) (a .reach) (a .step) (a .out .now) (s .pre) (l .out) (l .at) (l .offset) (l .inv .0) w (at-pi (a .estimate) (a .reach) (a .step) (l .offset) (l .inv .0) some (c .before .loop-test .taken) (not-true (lt (add binary32 (a .estimate) (l .offset)) pi) (c .if1 .taken)))
+    all-written (a .estimate) (a .reach) (a .step) (a .out .now) (s .pre) (l .out) (l .at) (l .offset) (l .inv .0) w (at-pi (a .estimate) (a .reach) (a .step) (l .offset) (l .inv .0) some (c .before .loop-test .taken) (not-true (lt (add binary32 (a .estimate) (l .offset)) pi32) (c .if1 .taken)))
 
 put-pair-requires : tie.Need-put-pair-requires Inv-loop μ-loop
 put-pair-requires c κs =
@@ -55,7 +55,7 @@ put-pair-requires c κs =
     let w = l .inv .1 in
     let m = at-most (a .estimate) (a .reach) (a .step) _ (l .out) (l .at) (l .offset) (l .inv .0) w in
     let some : 0 < l .inv .0 = omega (arith, l .inv .2) in
-    pair-room (a .estimate) (a .reach) (a .step) _ (l .out) (l .at) (l .offset) (l .inv .0) w _ (a-pair (a .estimate) (a .reach) (a .step) (l .offset) (l .inv .0) some (c .before .before .loop-test .taken) (not-false (lt (add binary32 (a .estimate) (l .offset)) pi) (c .before .if1 .left)))
+    pair-room (a .estimate) (a .reach) (a .step) _ (l .out) (l .at) (l .offset) (l .inv .0) w _ (a-pair (a .estimate) (a .reach) (a .step) (l .offset) (l .inv .0) some (c .before .before .loop-test .taken) (not-false (lt (add binary32 (a .estimate) (l .offset)) pi32) (c .before .if1 .left)))
 
 same-length-2 : tie.Need-same-length-2 Inv-loop μ-loop
 same-length-2 c =
@@ -65,7 +65,7 @@ same-length-2 c =
     let w = l .inv .1 in
     let m = at-most (a .estimate) (a .reach) (a .step) _ (l .out) (l .at) (l .offset) (l .inv .0) w in
     let some : 0 < l .inv .0 = omega (arith, l .inv .2) in
-    start-length (a .estimate) (a .reach) (a .step) (a .out .now) (s .pre) _ _ (add binary32 (l .offset) (a .step)) 0 (written-last (a .estimate) (a .reach) (a .step) _ (l .out) (l .at) (l .offset) (l .inv .0) w _ _ (last-pair (a .estimate) (a .reach) (a .step) (l .offset) (l .inv .0) some (c .before .before .before .before .before .before .loop-test .taken) (not-false (lt (add binary32 (a .estimate) (l .offset)) pi) (c .before .before .before .before .before .if1 .left)) (c .if2 .taken)) (c .before .before .before .put-pair .ensures .1))
+    start-length (a .estimate) (a .reach) (a .step) (a .out .now) (s .pre) _ _ (add binary32 (l .offset) (a .step)) 0 (written-last (a .estimate) (a .reach) (a .step) _ (l .out) (l .at) (l .offset) (l .inv .0) w _ _ (last-pair (a .estimate) (a .reach) (a .step) (l .offset) (l .inv .0) some (c .before .before .before .before .before .before .loop-test .taken) (not-false (lt (add binary32 (a .estimate) (l .offset)) pi32) (c .before .before .before .before .before .if1 .left)) (c .if2 .taken)) (c .before .before .before .put-pair .ensures .1))
 
 returns-2 : tie.Need-returns-2 Inv-loop μ-loop
 returns-2 c =
@@ -75,7 +75,7 @@ returns-2 c =
     let w = l .inv .1 in
     let m = at-most (a .estimate) (a .reach) (a .step) _ (l .out) (l .at) (l .offset) (l .inv .0) w in
     let some : 0 < l .inv .0 = omega (arith, l .inv .2) in
-    all-written (a .estimate) (a .reach) (a .step) (a .out .now) (s .pre) _ _ (add binary32 (l .offset) (a .step)) 0 (written-last (a .estimate) (a .reach) (a .step) _ (l .out) (l .at) (l .offset) (l .inv .0) w _ _ (last-pair (a .estimate) (a .reach) (a .step) (l .offset) (l .inv .0) some (c .before .before .before .before .before .before .loop-test .taken) (not-false (lt (add binary32 (a .estimate) (l .offset)) pi) (c .before .before .before .before .before .if1 .left)) (c .if2 .taken)) (c .before .before .before .put-pair .ensures .1)) (none-left (a .estimate) (a .reach) (a .step) (add binary32 (l .offset) (a .step)))
+    all-written (a .estimate) (a .reach) (a .step) (a .out .now) (s .pre) _ _ (add binary32 (l .offset) (a .step)) 0 (written-last (a .estimate) (a .reach) (a .step) _ (l .out) (l .at) (l .offset) (l .inv .0) w _ _ (last-pair (a .estimate) (a .reach) (a .step) (l .offset) (l .inv .0) some (c .before .before .before .before .before .before .loop-test .taken) (not-false (lt (add binary32 (a .estimate) (l .offset)) pi32) (c .before .before .before .before .before .if1 .left)) (c .if2 .taken)) (c .before .before .before .put-pair .ensures .1)) (none-left (a .estimate) (a .reach) (a .step) (add binary32 (l .offset) (a .step)))
 
 loop-less : tie.Need-loop-less Inv-loop μ-loop
 loop-less c =
@@ -99,7 +99,7 @@ loop-again c =
     let q = pair-some (a .estimate) (l .offset) in (
       l .inv .0 - 1,
       subst (λ (n : ℕ). Written (a .estimate) (a .reach) (a .step) (set (a .out .now) 0 (a .estimate)) (c .before .before .before .put-pair .last .1 .1 .0) n (add binary32 (l .offset) (a .step)) (l .inv .0 - 1)) (sym (e .0))
-          (written-on (a .estimate) (a .reach) (a .step) _ (l .out) (l .at) (l .offset) (l .inv .0) w _ (l .inv .0 - 1) _ (next-pair (a .estimate) (a .reach) (a .step) (l .offset) (l .inv .0) some (c .before .before .before .before .before .before .loop-test .taken) (not-false (lt (add binary32 (a .estimate) (l .offset)) pi) (c .before .before .before .before .before .if1 .left)) (c .if2 .left)) (e .1)),
+          (written-on (a .estimate) (a .reach) (a .step) _ (l .out) (l .at) (l .offset) (l .inv .0) w _ (l .inv .0 - 1) _ (next-pair (a .estimate) (a .reach) (a .step) (l .offset) (l .inv .0) some (c .before .before .before .before .before .before .loop-test .taken) (not-false (lt (add binary32 (a .estimate) (l .offset)) pi32) (c .before .before .before .before .before .if1 .left)) (c .if2 .left)) (e .1)),
       omega (arith, l .inv .2, e .0),
     )
 

@@ -1,4 +1,7 @@
-use Rattle.pattern.specs.Edges.{angleOf}
+use mathlib.Core.Path.{_∙_, ap}
+use lib.Ieee.{binary32, mul}
+use Rattle.arc.specs.Arc.{arcOf}
+use Rattle.pattern.specs.Edges.{two, angleOf}
 use borrow.Author.Needs.{needs}
 use Rattle.pattern.proofs.angle_from_distance.Statement.{statement}
 use Rattle.pattern.proofs.angle_from_distance.Tie as tie
@@ -11,7 +14,7 @@ arc-requires c κs = search needs
 
 returns : tie.Need-returns
 unfolding angleOf
-returns c = cc
+returns c = ap (mul binary32 two) (c .arc .ensures ∙ ap arcOf (c .before .smaller .ensures))
 
 pub angle-from-distance-spec : {M : Type 1} → statement M
 angle-from-distance-spec = tie.close (tie.spec smaller-requires arc-requires returns)
