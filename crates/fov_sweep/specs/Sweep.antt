@@ -4,7 +4,7 @@ use mathlib.Core.Bool.{Bool, cond, _&&_}
 use mathlib.Core.List.{List, [], _∷_, _++_}
 use lib.Dec.{leb}
 use lib.ListN.{length, drop}
-use lib.Ieee.{Float, binary32, ofBits, add, sub, lt, le}
+use lib.Ieee.{Float, binary32, add, sub, lt, le}
 use lib.Ieee.Scale.{finite}
 use Rattle.float_order.specs.Value.{zero32, pi32}
 use Rattle.float_order.specs.Choice.{smaller}
