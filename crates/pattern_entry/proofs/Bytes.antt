@@ -9,7 +9,7 @@ use borrow.Author.Tests.{leb-true}
 use lib.ListN.{length, getD, take, drop, length-take, length-drop}
 use lib.Seq.{getD-take, getD-drop}
 use lib.Ieee.{Float}
-use Rattle.pattern_entry.specs.Entry.{bytesAt, inSection, star}
+use Rattle.pattern_entry.specs.Entry.{bytesAt, inSection, halfAt, markOf, star}
 use Rattle.pattern_entry.specs.declared.PatternEntry.{PatternEntry}
 
 -- a byte past the end
@@ -36,6 +36,13 @@ section-whole packed p h = whole-at packed p (leb-true (p * 22 + 22) (length pac
 pub byte-at : (packed : List ℕ) (p k : ℕ) → k < 22 → getD (bytesAt packed p) k 0 ≡ getD packed (p * 22 + k) 0
 unfolding bytesAt
 byte-at packed p k h = rw (getD-take, getD-drop)
+
+-- and so is its mark
+pub mark-is : (packed : List ℕ) (p : ℕ) → halfAt packed (p * 22 + 20) ≡ markOf (bytesAt packed p)
+mark-is packed p =
+    let a : getD (bytesAt packed p) 20 0 ≡ getD packed (p * 22 + 20) 0 = byte-at packed p 20 (omega arith) in
+    let b : getD (bytesAt packed p) 21 0 ≡ getD packed (p * 22 + 20 + 1) 0 = byte-at packed p 21 (omega arith) ∙ ap (λ (i : ℕ). getD packed i 0) (sym (add-assoc (p * 22) 20 1)) in
+    ap₂ (λ (x y : ℕ). x + y * 0x100) (sym a) (sym b)
 
 -- entries that are equal part by part
 pub same-entry : {a b c d a' b' c' d' m m' : ℕ} {x x' : Float} → a ≡ a' → b ≡ b' → c ≡ c' → d ≡ d' → x ≡ x' → m ≡ m'

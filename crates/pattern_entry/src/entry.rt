@@ -2,7 +2,7 @@
 ghost use mathlib.Core.Path.{_≡_};
 ghost use Prim.Native.Nat.{_+_, _*_, _≤_, _<_};
 ghost use lib.ListN.{length, getD};
-ghost use Rattle.pattern_entry.specs.Entry.{wordAt, halfAt, entryRead, bytesAt, entrySound};
+ghost use Rattle.pattern_entry.specs.Entry.{wordAt, halfAt, markOf, entryRead, bytesAt, entrySound};
 ghost use Rattle.pattern_entry.specs.Shortcuts.{indicesBelow};
 use crate::PatternEntry;
 use crate::StarIndex;
@@ -96,6 +96,15 @@ fn indices_below(e: &[u8], n: u32) -> bool
         return false;
     }
     word(e, 12) < n
+}
+
+// The mark of the entry at a place inside the section.
+pub fn mark_at(packed: &[u8], place: u64) -> u16
+    requires { ⌜ place * 22 + 22 ≤ length (now packed) ⌝ }
+    ensures { λ r. ⌜ r ≡ markOf (bytesAt (now (packed .entry)) place) ⌝ }
+{
+    let at = place as usize * 22 + 20;
+    wide(packed[at]) + wide(packed[at + 1]) * 0x100
 }
 
 // Question 9 for the entry at a place inside the section.

@@ -5,6 +5,7 @@ mod stars;
 pub use crate::entry::entry_sound;
 pub use crate::entry::entry_sound_at;
 pub use crate::entry::indices_below_at;
+pub use crate::entry::mark_at;
 pub use crate::entry::read_packed;
 pub use crate::stars::every_star_sound;
 pub use crate::stars::star_sound;
