@@ -54,7 +54,7 @@ module _ (e : List ℕ) (slot hash : ℕ) (places : List Place) (pass : ℕ) (im
 
 -- ---- the slot, by what `find_in` says
 module _ (words packed : List ℕ) (s : ℕ) where
-  is-empty : slotIn words packed s ≡ empty → filled words s ≡ false
+  pub is-empty : slotIn words packed s ≡ empty → filled words s ≡ false
   unfolding slotIn
   is-empty h = go (filled words s) (inSection packed (place words s)) h
     where
@@ -63,7 +63,7 @@ module _ (words packed : List ℕ) (s : ℕ) where
       go true false e = absurd (let z : _≡_ {A = ℕ} 0 1 = cc in omega arith)
       go true true e = absurd (let z : _≡_ {A = ℕ} 0 1 = cc in omega arith)
 
-  is-refused : (n : ℕ) → slotIn words packed s ≡ refused n → (filled words s ≡ true) × (inSection packed (place words s) ≡ false)
+  pub is-refused : (n : ℕ) → slotIn words packed s ≡ refused n → (filled words s ≡ true) × (inSection packed (place words s) ≡ false)
   unfolding slotIn
   is-refused n h = go (filled words s) (inSection packed (place words s)) h
     where
@@ -72,7 +72,7 @@ module _ (words packed : List ℕ) (s : ℕ) where
       go true false e = (refl, refl)
       go true true e = absurd (let z : _≡_ {A = ℕ} 0 1 = cc in omega arith)
 
-outside-short : (packed : List ℕ) (p : ℕ) (stars : List Float) → inSection packed p ≡ false → entrySound stars (bytesAt packed p) ≡ false
+pub outside-short : (packed : List ℕ) (p : ℕ) (stars : List Float) → inSection packed p ≡ false → entrySound stars (bytesAt packed p) ≡ false
 unfolding inSection bytesAt entrySound
 outside-short packed p stars h =
     let l = leb-false (p * 22 + 22) (length packed) h in

@@ -252,17 +252,25 @@ pub fn lay_four(
     }
 }
 
+// The slot of probe number c from a home slot: a division only where the sum goes past the last slot.
+pub fn around(home: u64, c: u32, slots: u64) -> u64
+    requires { ⌜ (home < slots) × (slots ≤ 16777216) × (c < slots) ⌝ }
+    ensures { λ r. ⌜ (r ≡ (home + c * c) % slots) × (r < slots) ⌝ }
+{
+    let wide = c as u64;
+    let sum = home + wide * wide;
+    if sum < slots {
+        return sum;
+    }
+    sum % slots
+}
+
 // The slot of probe number c of the key with this hash: (home + c·c) modulo the slot count.
 pub fn slot_of_probe(hash: u64, c: u32, slots: u64) -> u64
     requires { ⌜ (0 < slots) × (slots ≤ 16777216) × (c < slots) ⌝ }
     ensures { λ r. ⌜ (r ≡ (homeOf hash slots + c * c) % slots) × (r < slots) ⌝ }
 {
-    let wide = c as u64;
-    let sum = key_hash::hash_to_index(hash, slots) + wide * wide;
-    if sum < slots {
-        return sum;
-    }
-    sum % slots
+    around(key_hash::hash_to_index(hash, slots), c, slots)
 }
 
 // The places of a combination in the brightness list.
