@@ -4,6 +4,7 @@ pub mod Existing
 pub mod Beginning
 pub mod Stepping
 pub mod Turning
+pub mod Passing
 pub mod Calling
 pub mod Listed
 pub mod Run

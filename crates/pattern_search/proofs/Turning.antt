@@ -183,11 +183,11 @@ module _ (D : Data) (st : State) (a : ℕ) (w : Walk) where
     reply-hit f s g v ve z ze = rw (turn-hit (feed D) cap st a w r e p f s g, ze, ve)
 
     -- a turn that goes on
-    pub turn-more : soundAt (feed D) cap r ≡ true → gives (feed D) r ≡ none → (v : Walk) → v ≡ steppedOf (feed D) cap w r → (g : Held) (places : List ℕ) (dirs : List (List Float)) (hashes : List ℕ) → Ready D v g places dirs hashes → (u : Turn) → u .more ≡ true → u .walk ≡ v → u .held ≡ g → Turned D st a w places dirs hashes u
-    turn-more s n v ve g places dirs hashes y u m uw uh =
-        rw m (p, ap (goesOn (feed D) cap st (a - 1)) (uw ∙ ve) ∙ turn-passed (feed D) cap st a w r e p s n, rw (uw, uh) y)
+    pub turn-more : soundAt (feed D) cap r ≡ true → gives (feed D) r ≡ none → (v : Walk) → v ≡ steppedOf (feed D) cap w r → (g : Held) (places : List ℕ) (dirs : List (List Float)) (hashes : List ℕ) → Ready D v g places dirs hashes → (u : Turn) → u .more ≡ true → u .walk ≡ v → u .held ≡ g → u .left ≡ a - 1 → Turned D st a w places dirs hashes u
+    turn-more s n v ve g places dirs hashes y u m uw uh ul =
+        rw m (omega (arith, ul), ap (λ n. goesOn (feed D) cap st n (u .walk)) ul ∙ ap (goesOn (feed D) cap st (a - 1)) (uw ∙ ve) ∙ turn-passed (feed D) cap st a w r e p s n, rw (uw, uh) y)
 
-  pub turn-stop : (x : Searched) → x ≡ rest D st a w → (v : Walk) (h : Held) (places : List ℕ) (dirs : List (List Float)) (hashes : List ℕ) (u : Turn) → u ≡ record { more = false; reply = x; walk = v; held = h } → Turned D st a w places dirs hashes u
+  pub turn-stop : (x : Searched) → x ≡ rest D st a w → (v : Walk) (h : Held) (places : List ℕ) (dirs : List (List Float)) (hashes : List ℕ) (u : Turn) → u ≡ record { more = false; reply = x; walk = v; held = h; left = 0 } → Turned D st a w places dirs hashes u
   turn-stop x e v h places dirs hashes u ue = rw ue e
 
 -- after a read the call is ready for the next

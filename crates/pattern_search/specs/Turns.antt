@@ -1,7 +1,8 @@
 -- What the steps of a call ensure of one another. Definitions only.
 use mathlib.Core.Path.{_≡_}
 use Prim.Native.Nat.{ℕ, _+_, _-_, _<_}
-use mathlib.Core.Bool.{Bool, true, false}
+use mathlib.Core.Bool.{Bool, true, false, cond}
+use lib.Dec.{eqb}
 use mathlib.Core.List.{List}
 use lib.Ieee.{Float}
 use Rattle.table_blocks.specs.Blocks.{tableFits}
@@ -9,6 +10,7 @@ use Rattle.undivided_run.specs.declared.Position.{Position}
 use Rattle.undivided_run.specs.declared.State.{State}
 use Rattle.undivided_run.specs.declared.Walk.{Walk}
 use Rattle.undivided_run.specs.declared.Cap.{Cap}
+use Rattle.undivided_run.specs.declared.Next.the-variants.{Goes as goes}
 use Rattle.undivided_run.specs.Undivided.{Feed}
 use Rattle.undivided_run.specs.Step.{bump, nextRead}
 use Rattle.undivided_run.specs.Good.{Good, goesOn}
@@ -17,6 +19,8 @@ use Rattle.search_feed.specs.Feed.{feed}
 use Rattle.search_feed.specs.Desk.{PassDesk, FourDesk}
 use Rattle.search_feed.specs.Claims.{Asked5}
 use Rattle.search_feed.specs.declared.Held.{Held}
+use Rattle.chains.specs.Quiet.{keyAt}
+use Rattle.chains.specs.declared.Stand.{Stand}
 use Rattle.pattern_search.specs.Answers.{searched}
 use Rattle.pattern_search.specs.declared.Turn.{Turn}
 use Rattle.pattern_search.specs.declared.Searched.{Searched}
@@ -24,6 +28,10 @@ use Rattle.pattern_search.specs.declared.Searched.{Searched}
 -- the walk after a read
 abbrev pub steppedOf : {E C : Type 0} → Feed E C → Cap → Walk → Position → Walk
 steppedOf F cap w r = record { next = nextRead F cap r (bump r (w .patterns)); patterns = bump r (w .patterns); reads = w .reads + 1 }
+
+-- the walk after the reads that the fast way made
+abbrev pub passedOf : Walk → Position → Stand → ℕ → Walk
+passedOf w p s a = cond (eqb (s .left) a) w (record { next = goes (keyAt p (s .key) (s .probe)); patterns = bump p (w .patterns); reads = w .reads + (a - s .left) })
 
 module _ (D : Data) where
   -- a call between two reads: the questions hold, the walk is good, and the desk holds what it says
@@ -38,15 +46,11 @@ module _ (D : Data) where
   abbrev pub rest : State → ℕ → Walk → Searched
   rest st a w = searched (goesOn (feed D) (D .frame .config .cap) st a w)
 
-  -- one turn: the call's reply, or the walk after one read
+  -- one turn: the call's reply, or the walk after some reads and what is left of the allowance
   abbrev pub TurnedBy : Bool → State → ℕ → Walk → List ℕ → List (List Float) → List ℕ → Turn → Type 0
   TurnedBy false st a w places dirs hashes u = u .reply ≡ rest st a w
   TurnedBy true st a w places dirs hashes u =
-      (0 < a) × (goesOn (feed D) (D .frame .config .cap) st (a - 1) (u .walk) ≡ goesOn (feed D) (D .frame .config .cap) st a w) × Ready (u .walk) (u .held) places dirs hashes
+      (u .left < a) × (goesOn (feed D) (D .frame .config .cap) st (u .left) (u .walk) ≡ goesOn (feed D) (D .frame .config .cap) st a w) × Ready (u .walk) (u .held) places dirs hashes
 
   abbrev pub Turned : State → ℕ → Walk → List ℕ → List (List Float) → List ℕ → Turn → Type 0
   Turned st a w places dirs hashes u = TurnedBy (u .more) st a w places dirs hashes u
-
-  -- the same for a turn that reads at r, whatever the allowance is but 0
-  abbrev pub ReadTurned : State → Walk → Position → List ℕ → List (List Float) → List ℕ → Turn → Type 0
-  ReadTurned st w r places dirs hashes u = (a : ℕ) → 0 < a → Turned st a w places dirs hashes u

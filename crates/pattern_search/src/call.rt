@@ -2,7 +2,7 @@
 ghost use mathlib.Core.Path.{_≡_};
 ghost use mathlib.Core.Bool.{true, false};
 ghost use mathlib.Core.List.{List};
-ghost use Prim.Native.Nat.{ℕ, _/_, _<_};
+ghost use Prim.Native.Nat.{ℕ, _+_, _-_, _/_, _≤_, _<_};
 ghost use lib.Ieee.{Float};
 ghost use lib.ListN.{length};
 ghost use mathlib.Core.Option.{none};
@@ -19,7 +19,8 @@ ghost use Rattle.search_feed.specs.Claims.{Asked5};
 ghost use Rattle.pattern_search.specs.Desks.{Kept, AtRead};
 ghost use Rattle.pattern_search.specs.Questions.{firstSeven};
 ghost use Rattle.pattern_search.specs.Answers.{searched, lentOf};
-ghost use Rattle.pattern_search.specs.Turns.{steppedOf, Ready, ReadTurned, Turned};
+ghost use Rattle.chains.specs.Glances.{SoundBelow};
+ghost use Rattle.pattern_search.specs.Turns.{steppedOf, passedOf, Ready, Turned};
 use crate::Answer;
 use crate::Asked;
 use crate::Reached;
@@ -30,6 +31,8 @@ use crate::after::after;
 use crate::after::to_pass;
 use crate::ask::eighth;
 use crate::ask::first_seven;
+use chains::Known;
+use chains::Stand;
 use search_feed::Held;
 use search_feed::SearchConfig;
 use search_feed::Seen;
@@ -54,19 +57,20 @@ fn plain(answer: Answer, state: State) -> Searched
 
 // A turn that ends the call.
 fn stop(reply: Searched, walk: Walk, held: Held) -> Turn
-    ensures { λ r. ⌜ r ≡ record { more = false; reply = reply; walk = walk; held = held } ⌝ }
+    ensures { λ r. ⌜ r ≡ record { more = false; reply = reply; walk = walk; held = held; left = 0 } ⌝ }
 {
     Turn {
         more: false,
         reply,
         walk,
         held,
+        left: 0,
     }
 }
 
 // A turn that goes on.
-fn go_on(walk: Walk, held: Held, st: State) -> Turn
-    ensures { λ r. ⌜ (r .more ≡ true) × (r .walk ≡ walk) × (r .held ≡ held) ⌝ }
+fn go_on(walk: Walk, held: Held, st: State, left: u64) -> Turn
+    ensures { λ r. ⌜ (r .more ≡ true) × (r .walk ≡ walk) × (r .held ≡ held) × (r .left ≡ left) ⌝ }
 {
     let reply = plain(Answer::AllowanceUsed, st);
     Turn {
@@ -74,6 +78,7 @@ fn go_on(walk: Walk, held: Held, st: State) -> Turn
         reply,
         walk,
         held,
+        left,
     }
 }
 
@@ -142,7 +147,24 @@ fn step(
     }
 }
 
-// One read, and what it makes of the call.
+// The walk after the reads of a combination that the fast way made.
+fn passed(walk: Walk, p: Position, s: Stand, allowance: u64) -> Walk
+    requires { ⌜ (s .left ≤ allowance) × (walk .patterns < 9223372036854775808) × (walk .reads + (allowance - s .left) ≤ 9223372036854775808) ⌝ }
+    ensures { λ r. ⌜ r ≡ passedOf walk p s allowance ⌝ }
+{
+    if s.left == allowance {
+        return walk;
+    }
+    let n = p.count(walk.patterns);
+    let to = chains::moved(p, s.key, s.probe);
+    Walk {
+        next: Next::Goes(to),
+        patterns: n,
+        reads: walk.reads + (allowance - s.left),
+    }
+}
+
+// One read, the desk laid for it, and what it makes of the call.
 fn read_turn(
     centroids: &[f32],
     order: &[u32],
@@ -153,33 +175,23 @@ fn read_turn(
     packed: &[u8],
     stars: &[f32],
     st: State,
+    allowance: u64,
     walk: Walk,
-    held: Held,
+    desk: Held,
     p: Position,
     places: &mut [u32; 64],
     dirs: &mut [[f32; 3]; 64],
-    hashes: &mut [u64; 1024],
+    hashes: &[u64; 1024],
 ) -> Turn
-    requires { ⌜ Ready (dataOf (frameOf (now centroids) (now order) config (now passes)) slots (now words) (now packed) (now stars)) walk held (now places) (now dirs) (now hashes) × (walk .next ≡ Next.Goes p) ⌝ }
-    ensures { λ r. ⌜ ReadTurned (dataOf (frameOf (now (centroids .entry)) (now (order .entry)) config (now (passes .entry))) slots (now (words .entry)) (now (packed .entry)) (now (stars .entry))) st walk p (now (places .exit)) (now (dirs .exit)) (now (hashes .exit)) r ⌝ }
+    requires { ⌜ Ready (dataOf (frameOf (now centroids) (now order) config (now passes)) slots (now words) (now packed) (now stars)) walk desk (now places) (now dirs) (now hashes) × (walk .next ≡ Next.Goes p) × ForPass (frameOf (now centroids) (now order) config (now passes)) (p .pass) desk (now places) (now dirs) × ForFour (frameOf (now centroids) (now order) config (now passes)) (p .pass) (p .four) desk (now hashes) × (0 < allowance) ⌝ }
+    ensures { λ r. ⌜ Turned (dataOf (frameOf (now (centroids .entry)) (now (order .entry)) config (now (passes .entry))) slots (now (words .entry)) (now (packed .entry)) (now (stars .entry))) st allowance walk (now (places .exit)) (now (dirs .exit)) (now (hashes .entry)) r ⌝ }
 {
-    let desk = lay(
-        centroids,
-        order,
-        config,
-        passes,
-        held,
-        p,
-        places,
-        dirs,
-        hashes,
-    );
     let field = passes::pass_at(passes, p.pass).field;
     let read = search_feed::look(
         p,
         desk,
         &*places,
-        &*hashes,
+        hashes,
         config,
         field,
         slots,
@@ -234,7 +246,7 @@ fn read_turn(
             );
             let on = s.walk;
             let left = s.held;
-            go_on(on, left, st)
+            go_on(on, left, st, allowance - 1)
         }
         Seen::Empty => {
             let s = step(
@@ -252,9 +264,81 @@ fn read_turn(
             );
             let on = s.walk;
             let left = s.held;
-            go_on(on, left, st)
+            go_on(on, left, st, allowance - 1)
         }
     }
+}
+
+// Over the reads of the combination at hand that give nothing, then the read that they lead to, if the allowance has one left.
+fn read_on(
+    centroids: &[f32],
+    order: &[u32],
+    config: SearchConfig,
+    passes: &[f32],
+    slots: u64,
+    words: &[u64],
+    packed: &[u8],
+    stars: &[f32],
+    sound: u32,
+    st: State,
+    allowance: u64,
+    walk: Walk,
+    held: Held,
+    p: Position,
+    places: &mut [u32; 64],
+    dirs: &mut [[f32; 3]; 64],
+    hashes: &mut [u64; 1024],
+) -> Turn
+    requires { ⌜ Ready (dataOf (frameOf (now centroids) (now order) config (now passes)) slots (now words) (now packed) (now stars)) walk held (now places) (now dirs) (now hashes) × (walk .next ≡ Next.Goes p) × SoundBelow (now stars) sound ⌝ }
+    ensures { λ r. ⌜ Turned (dataOf (frameOf (now (centroids .entry)) (now (order .entry)) config (now (passes .entry))) slots (now (words .entry)) (now (packed .entry)) (now (stars .entry))) st allowance walk (now (places .exit)) (now (dirs .exit)) (now (hashes .exit)) r ⌝ }
+{
+    let desk = lay(
+        centroids,
+        order,
+        config,
+        passes,
+        held,
+        p,
+        places,
+        dirs,
+        hashes,
+    );
+    let s = chains::through(
+        p.key,
+        p.probe,
+        desk.keys,
+        &*hashes,
+        slots,
+        words,
+        packed,
+        stars,
+        sound,
+        allowance,
+    );
+    let on = passed(walk, p, s, allowance);
+    if s.left == 0 {
+        let reply = plain(Answer::AllowanceUsed, on.state());
+        return stop(reply, on, desk);
+    }
+    let to = chains::moved(p, s.key, s.probe);
+    read_turn(
+        centroids,
+        order,
+        config,
+        passes,
+        slots,
+        words,
+        packed,
+        stars,
+        st,
+        s.left,
+        on,
+        desk,
+        to,
+        places,
+        dirs,
+        &*hashes,
+    )
 }
 
 // The read at hand, if there is one and the allowance has one left.
@@ -267,6 +351,7 @@ fn turn(
     words: &[u64],
     packed: &[u8],
     stars: &[f32],
+    sound: u32,
     st: State,
     allowance: u64,
     walk: Walk,
@@ -275,7 +360,7 @@ fn turn(
     dirs: &mut [[f32; 3]; 64],
     hashes: &mut [u64; 1024],
 ) -> Turn
-    requires { ⌜ Ready (dataOf (frameOf (now centroids) (now order) config (now passes)) slots (now words) (now packed) (now stars)) walk held (now places) (now dirs) (now hashes) ⌝ }
+    requires { ⌜ Ready (dataOf (frameOf (now centroids) (now order) config (now passes)) slots (now words) (now packed) (now stars)) walk held (now places) (now dirs) (now hashes) × SoundBelow (now stars) sound ⌝ }
     ensures { λ r. ⌜ Turned (dataOf (frameOf (now (centroids .entry)) (now (order .entry)) config (now (passes .entry))) slots (now (words .entry)) (now (packed .entry)) (now (stars .entry))) st allowance walk (now (places .exit)) (now (dirs .exit)) (now (hashes .exit)) r ⌝ }
 {
     let next = walk.next;
@@ -289,7 +374,7 @@ fn turn(
                 let reply = plain(Answer::AllowanceUsed, walk.state());
                 return stop(reply, walk, held);
             }
-            read_turn(
+            read_on(
                 centroids,
                 order,
                 config,
@@ -298,7 +383,9 @@ fn turn(
                 words,
                 packed,
                 stars,
+                sound,
                 st,
+                allowance,
                 walk,
                 held,
                 p,
@@ -328,13 +415,19 @@ fn run(
     dirs: &mut [[f32; 3]; 64],
     hashes: &mut [u64; 1024],
 ) -> Searched
-    requires { ⌜ Ready (dataOf (frameOf (now centroids) (now order) config (now passes)) slots (now words) (now packed) (now stars)) walk held (now places) (now dirs) (now hashes) ⌝ }
+    requires { ⌜ Ready (dataOf (frameOf (now centroids) (now order) config (now passes)) slots (now words) (now packed) (now stars)) walk held (now places) (now dirs) (now hashes) × (length (now stars) ≤ 3145728) ⌝ }
     ensures { λ r. ⌜ r ≡ searched (goesOn (feed (dataOf (frameOf (now (centroids .entry)) (now (order .entry)) config (now (passes .entry))) slots (now (words .entry)) (now (packed .entry)) (now (stars .entry)))) (config .cap) st allowance walk) ⌝ }
 {
     let mut w = walk;
     let mut h = held;
     let mut a = allowance;
+    let mut known = Known {
+        asked: false,
+        sound: 0,
+    };
     loop {
+        let k = chains::ask_stars(stars, known, allowance - a);
+        known = k;
         let u = turn(
             centroids,
             order,
@@ -344,6 +437,7 @@ fn run(
             words,
             packed,
             stars,
+            k.sound,
             st,
             a,
             w,
@@ -357,7 +451,7 @@ fn run(
             let g = u.held;
             w = v;
             h = g;
-            a -= 1;
+            a = u.left;
         } else {
             let reply = u.reply;
             return reply;

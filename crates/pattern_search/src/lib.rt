@@ -44,12 +44,13 @@ pub struct Reached {
     pub held: Held,
 }
 
-// What a turn gives: the call's reply, or the walk and the desk to go on with.
+// What a turn gives: the call's reply, or the walk, the desk and the allowance to go on with.
 pub struct Turn {
     pub more: bool,
     pub reply: Searched,
     pub walk: Walk,
     pub held: Held,
+    pub left: u64,
 }
 
 // The walk after a read, with the desk as it lies then.

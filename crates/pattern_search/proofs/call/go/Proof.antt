@@ -2,7 +2,8 @@ use native.Mathlib.Omega.{arith}
 use borrow.Author.Tests.{not-true, not-false}
 use borrow.Author.Needs.{needs}
 use Rattle.search_feed.specs.Data.{frameOf, dataOf}
-use Rattle.pattern_search.proofs.Asking.{seven-asked}
+use Rattle.pattern_entry.proofs.StarSlice.{fit-few}
+use Rattle.pattern_search.proofs.Asking.{seven-asked, seven-stars}
 use Rattle.pattern_search.proofs.Desks.{bare-pass, bare-four}
 use Rattle.pattern_search.proofs.Calling.{call-eight, call-zero, call-run, ready}
 use Rattle.pattern_search.proofs.call.go.Statement.{statement}
@@ -54,7 +55,7 @@ run-requires : tie.Need-run-requires
 run-requires c κs =
     let b = c .before .before .before .before .before .before .before .before .before .before .before .before .before .before .before .before .before .before .before .before .before .before .before .before .before in
     let D = dataOf (frameOf (b .args .centroids .now) (b .args .order .now) (b .args .config) (b .args .passes .now)) (b .args .slots) (b .args .words .now) (b .args .packed .now) (b .args .stars .now) in
-    ready D (b .args .st) (b .args .allowance) (b .pre) _ (c .before .before .before .before .before .before .before .before .before .before .before .eighth .ensures .0 (D .words) (D .packed) (D .stars)) (not-false _ (c .before .before .before .before .before .before .before .before .before .if1 .left)) _ (c .before .before .before .before .before .begin .ensures .0 (D .words) (D .packed) (D .stars)) _ _ _ _ (c .before .before .before .before .before .begin .ensures .1 .pass) (c .before .before .before .before .before .begin .ensures .1 .four _ (c .before .before .before .before .before .before .before .before .before .before .before .eighth .ensures .1 .1))
+    (ready D (b .args .st) (b .args .allowance) (b .pre) _ (c .before .before .before .before .before .before .before .before .before .before .before .eighth .ensures .0 (D .words) (D .packed) (D .stars)) (not-false _ (c .before .before .before .before .before .before .before .before .before .if1 .left)) _ (c .before .before .before .before .before .begin .ensures .0 (D .words) (D .packed) (D .stars)) _ _ _ _ (c .before .before .before .before .before .begin .ensures .1 .pass) (c .before .before .before .before .before .begin .ensures .1 .four _ (c .before .before .before .before .before .before .before .before .before .before .before .eighth .ensures .1 .1)), fit-few (D .stars) (seven-stars (D .frame) (b .args .slots) (D .words) (D .stars) (b .pre)))
 
 returns-3 : tie.Need-returns-3
 returns-3 c =

@@ -1,4 +1,3 @@
-use native.Mathlib.Omega.{arith}
 use borrow.Author.Needs.{needs}
 use Rattle.search_feed.specs.Data.{frameOf, dataOf}
 use Rattle.pattern_search.proofs.Turning.{reply-ended, reply-used, turn-stop}
@@ -35,8 +34,8 @@ returns c =
     let D = dataOf (frameOf (b .args .centroids .now) (b .args .order .now) (b .args .config) (b .args .passes .now)) (b .args .slots) (b .args .words .now) (b .args .packed .now) (b .args .stars .now) in
     turn-stop D (b .args .st) (b .args .allowance) (b .args .walk) _ (reply-used D (b .args .st) (b .args .allowance) (b .args .walk) _ (c .before .before .state2 .ensures) _ (c .before .before .before .before .before .next2 .given .1) (c .before .before .before .if1 .taken) _ (c .before .plain2 .ensures)) _ _ _ _ _ _ (c .stop2 .ensures)
 
-read-turn-requires : tie.Need-read-turn-requires
-read-turn-requires c κs = search needs
+read-on-requires : tie.Need-read-on-requires
+read-on-requires c κs = search needs
 
 returns-2 : tie.Need-returns-2
 returns-2 c =
@@ -45,7 +44,7 @@ returns-2 c =
     turn-stop D (b .args .st) (b .args .allowance) (b .args .walk) _ (reply-ended D (b .args .st) (b .args .allowance) (b .args .walk) _ (c .before .before .state .ensures) _ (c .before .before .before .before .next .given .1) _ (c .before .plain .ensures)) _ _ _ _ _ _ (c .stop .ensures)
 
 returns-3 : tie.Need-returns-3
-returns-3 c = c .read-turn .ensures _ (omega (arith, c .before .before .before .before .if1 .left))
+returns-3 c = c .read-on .ensures
 
 pub turn-spec : {M : Type 1} → statement M
 turn-spec =
@@ -60,6 +59,6 @@ turn-spec =
     plain-requires-2
     stop-requires-2
     returns
-    read-turn-requires
+    read-on-requires
     returns-2
     returns-3)

@@ -1,0 +1,126 @@
+-- A slot at a glance, case by case. Assumes nothing.
+use mathlib.Core.Path.{_≡_, refl, sym, ap, _∙_}
+use Prim.Native.Nat.{ℕ, _+_, _*_, _/_, _≤_, _<_}
+use mathlib.Core.Bool.{Bool, true, false, not, cond, _&&_}
+use mathlib.Core.List.{List}
+use lib.Dec.{ltb, eqb}
+use lib.ListN.{length}
+use lib.Ieee.{Float}
+use native.Mathlib.Omega.{arith}
+use borrow.Author.Tests.{ltb-true, lt-ltb, le-ltb, eq-eqb, ne-eqb}
+use Rattle.pattern_entry.specs.Ask.{ask}
+use Rattle.pattern_entry.specs.Stars.{starCount, starSound}
+use Rattle.pattern_entry.specs.Entry.{wordAt, markOf, bytesAt, inSection, entrySound}
+use Rattle.pattern_entry.specs.Shortcuts.{everyStar, indicesBelow}
+use Rattle.pattern_entry.proofs.StarSlice.{inside-sound}
+use Rattle.pattern_entry.proofs.Every.{both-l, both-r}
+use Rattle.pattern_entry.proofs.Bytes.{whole-at}
+use Rattle.table_blocks.specs.Blocks.{filled, place}
+use Rattle.pattern_catalog.specs.Answers.{foundSays}
+use Rattle.pattern_catalog.specs.SlotRead.{slotIn}
+use Rattle.pattern_catalog.specs.declared.Found.{Found}
+use Rattle.pattern_catalog.proofs.Slots.{in-place}
+use Rattle.search_feed.proofs.Looks.{is-empty, is-refused, outside-short}
+use Rattle.chains.specs.Glances.{SoundBelow, soundStars, askedStars, passesBy, glanceOf}
+use Rattle.chains.specs.declared.Known.{Known}
+use Rattle.chains.specs.declared.Glance.{Glance}
+use Rattle.chains.specs.declared.Glance.the-variants.{Empty, Passed, Stop}
+
+and-no : (b : Bool) → (b && false) ≡ false
+and-no true = refl
+and-no false = refl
+
+-- ---- an entry's bytes
+module _ (stars : List Float) (mark : ℕ) (e : List ℕ) (m : ℕ) (me : m ≡ markOf e) where
+  pub mark-same : m ≡ mark → false ≡ passesBy stars mark e
+  unfolding passesBy
+  mark-same h = sym (rw (eq-eqb (markOf e) mark (sym me ∙ h)) (and-no (entrySound stars e)))
+
+  module _ (o : m ≡ mark → ⊥) where
+    other-mark : passesBy stars mark e ≡ (entrySound stars e && true)
+    unfolding passesBy
+    other-mark = rw (ne-eqb (markOf e) mark (λ h. o (me ∙ h)))
+
+    pub mark-other : (b : Bool) → b ≡ entrySound stars e → b ≡ passesBy stars mark e
+    mark-other b h = h ∙ by (entrySound stars e) ∙ sym other-mark
+      where
+        by : (c : Bool) → c ≡ (c && true)
+        by true = refl
+        by false = refl
+
+-- ---- the stars asked once
+module _ (stars : List Float) (k : Known) (made : ℕ) where
+  pub stars-known : k .asked ≡ true → k ≡ askedStars stars k made
+  unfolding askedStars
+  stars-known t = sym (rw t)
+
+  module _ (f : k .asked ≡ false) where
+    pub stars-later : made < starCount stars / 4 → k ≡ askedStars stars k made
+    unfolding askedStars
+    stars-later l = sym (rw (f, lt-ltb made (starCount stars / 4) l))
+
+    module _ (l : starCount stars / 4 ≤ made) (b : Bool) (e : b ≡ everyStar stars) where
+      pub stars-sound : b ≡ true → record { asked = true; sound = starCount stars } ≡ askedStars stars k made
+      unfolding askedStars
+      stars-sound t = sym (rw (f, le-ltb made (starCount stars / 4) l, ← e, t))
+
+      pub stars-unsound : b ≡ false → record { asked = true; sound = 0 } ≡ askedStars stars k made
+      unfolding askedStars
+      stars-unsound t = sym (rw (f, le-ltb made (starCount stars / 4) l, ← e, t))
+
+all-sound-below : (stars : List Float) → SoundBelow stars (soundStars stars)
+all-sound-below stars i l = by (everyStar stars) refl l
+  where
+    by : (b : Bool) → everyStar stars ≡ b → i < cond b (starCount stars) 0 → starSound stars i ≡ true
+    by true e h = inside-sound stars e i ∙ lt-ltb i (starCount stars) h
+    by false e h = absurd (omega arith)
+
+-- what is known of the stars stays true
+pub known-below : (stars : List Float) (k : Known) (made : ℕ) → SoundBelow stars (k .sound) → SoundBelow stars (askedStars stars k made .sound)
+unfolding askedStars
+known-below stars k made s = by (k .asked) (ltb made (starCount stars / 4))
+  where
+    by : (b c : Bool) → SoundBelow stars ((cond b k (cond c k (record { asked = true; sound = soundStars stars }))) .sound)
+    by true c = s
+    by false true = s
+    by false false = all-sound-below stars
+
+-- indices below those of sound stars make a whole entry sound
+pub below-sound : (stars : List Float) (n : ℕ) → SoundBelow stars n → (e : List ℕ) → length e ≡ 22 → indicesBelow n e ≡ true → true ≡ entrySound stars e
+unfolding indicesBelow entrySound
+below-sound stars n s e l h =
+    let r = both-r (ltb (wordAt e 0) n) (ltb (wordAt e 4) n && (ltb (wordAt e 8) n && ltb (wordAt e 12) n)) h in
+    let q = both-r (ltb (wordAt e 4) n) (ltb (wordAt e 8) n && ltb (wordAt e 12) n) r in
+    let at : (k : ℕ) → ltb (wordAt e k) n ≡ true → starSound stars (wordAt e k) ≡ true = λ k t. s (wordAt e k) (ltb-true (wordAt e k) n t) in
+    sym (rw (
+      eq-eqb (length e) 22 l,
+      at 0 (both-l (ltb (wordAt e 0) n) (ltb (wordAt e 4) n && (ltb (wordAt e 8) n && ltb (wordAt e 12) n)) h),
+      at 4 (both-l (ltb (wordAt e 4) n) (ltb (wordAt e 8) n && ltb (wordAt e 12) n) r),
+      at 8 (both-l (ltb (wordAt e 8) n) (ltb (wordAt e 12) n) q),
+      at 12 (both-r (ltb (wordAt e 8) n) (ltb (wordAt e 12) n) q),
+    ))
+
+-- ---- the slot, by what `find_in` says
+module _ (words packed : List ℕ) (stars : List Float) (mark slot : ℕ) (f : Found) (fe : foundSays f ≡ slotIn words packed slot) where
+  pub glance-empty : f ≡ Found.Empty → Empty ≡ glanceOf words packed stars mark slot
+  unfolding glanceOf
+  glance-empty e = sym (rw (is-empty words packed slot (sym fe ∙ ap foundSays e)))
+
+  pub glance-refused : (n : ℕ) → f ≡ Found.Refused n → Stop ≡ glanceOf words packed stars mark slot
+  unfolding glanceOf passesBy
+  glance-refused n e =
+      let r = is-refused words packed slot n (sym fe ∙ ap foundSays e) in
+      sym (rw (r .0, outside-short packed (place words slot) stars (r .1)))
+
+  module _ (p : ℕ) (e : f ≡ Found.At p) where
+    pub glance-inside : p * 22 + 22 ≤ length packed
+    glance-inside = in-place words packed slot p (sym fe ∙ ap foundSays e) .2
+
+    module _ (b : Bool) (be : b ≡ passesBy stars mark (bytesAt packed p)) where
+      pub glance-passed : b ≡ true → Passed ≡ glanceOf words packed stars mark slot
+      unfolding glanceOf
+      glance-passed t = let r = in-place words packed slot p (sym fe ∙ ap foundSays e) in sym (rw (r .0, ← r .1, ← be, t))
+
+      pub glance-stop : b ≡ false → Stop ≡ glanceOf words packed stars mark slot
+      unfolding glanceOf
+      glance-stop t = let r = in-place words packed slot p (sym fe ∙ ap foundSays e) in sym (rw (r .0, ← r .1, ← be, t))

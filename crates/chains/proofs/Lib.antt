@@ -1,0 +1,4 @@
+pub mod Glancing
+pub mod Ways
+pub mod Quiets
+pub mod Standing

@@ -1,0 +1,34 @@
+-- A slot at a glance: empty, an entry that is sound and of another mark, or anything else. Definitions only.
+use mathlib.Core.Path.{_≡_}
+use Prim.Native.Nat.{ℕ, _/_, _<_}
+use mathlib.Core.Bool.{Bool, true, not, cond, _&&_}
+use mathlib.Core.List.{List}
+use lib.Dec.{eqb, ltb}
+use lib.Ieee.{Float}
+use Rattle.table_blocks.specs.Blocks.{filled, place}
+use Rattle.pattern_entry.specs.Stars.{starCount, starSound}
+use Rattle.pattern_entry.specs.Shortcuts.{everyStar}
+use Rattle.pattern_entry.specs.Entry.{markOf, bytesAt, entrySound}
+use Rattle.chains.specs.declared.Known.{Known}
+use Rattle.chains.specs.declared.Glance.{Glance}
+use Rattle.chains.specs.declared.Glance.the-variants.{Empty, Passed, Stop}
+
+-- every star below n is sound
+abbrev pub SoundBelow : List Float → ℕ → Type 0
+SoundBelow stars n = (i : ℕ) → i < n → starSound stars i ≡ true
+
+-- the number of stars where every one is sound, else 0
+abbrev pub soundStars : List Float → ℕ
+soundStars stars = cond (everyStar stars) (starCount stars) 0
+
+-- what a call that has made so many reads knows of the stars: it asks once
+unfoldable pub askedStars : List Float → Known → ℕ → Known
+askedStars stars k made = cond (k .asked) k (cond (ltb made (starCount stars / 4)) k (record { asked = true; sound = soundStars stars }))
+
+-- "A differing mark goes on to the next probe", once question 9 has let the entry through
+unfoldable pub passesBy : List Float → ℕ → List ℕ → Bool
+passesBy stars mark e = entrySound stars e && not (eqb (markOf e) mark)
+
+unfoldable pub glanceOf : List ℕ → List ℕ → List Float → ℕ → ℕ → Glance
+glanceOf words packed stars mark slot =
+    cond (filled words slot) (cond (passesBy stars mark (bytesAt packed (place words slot))) Passed Stop) Empty

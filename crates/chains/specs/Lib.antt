@@ -1,0 +1,3 @@
+pub mod Glances
+pub mod Chains
+pub mod Quiet

@@ -1,0 +1,26 @@
+-- Reads that are sound and give nothing, taken in one go. Definitions only.
+use mathlib.Core.Path.{_≡_}
+use Prim.Native.Nat.{ℕ, zero, suc, _-_, _≤_, _<_}
+use mathlib.Core.Bool.{true}
+use mathlib.Core.Option.{none}
+use Rattle.undivided_run.specs.declared.Position.{Position as Read}
+use Rattle.undivided_run.specs.declared.Cap.{Cap}
+use Rattle.undivided_run.specs.declared.Next.{Next}
+use Rattle.undivided_run.specs.declared.Next.the-variants.{Goes as goes}
+use Rattle.undivided_run.specs.Undivided.{Feed, gives}
+use Rattle.undivided_run.specs.Step.{bump, soundAt, nextRead}
+
+-- another key and probe of the same combination
+abbrev pub keyAt : Read → ℕ → ℕ → Read
+keyAt p k c = record { pass = p .pass; four = p .four; key = k; probe = c }
+
+-- from w, with n combinations counted, j reads that are sound and give nothing lead to v, with m counted
+abbrev pub Quiet : {E C : Type 0} → Feed E C → Cap → ℕ → Next → ℕ → Next → ℕ → Type 0
+Quiet F cap zero w n v m = (w ≡ v) × (n ≡ m)
+Quiet F cap (suc j) w n v m = (r : Read) × ((w ≡ goes r) × (soundAt F cap r ≡ true) × (gives F r ≡ none) × Quiet F cap j (nextRead F cap r (bump r n)) (bump r n) v m)
+
+-- reads that are sound and give nothing lead from r, with an allowance, to q of the same combination, with so much left of it
+pub record Leads {E C : Type 0} (F : Feed E C) (r : Read) (allowance left : ℕ) (q : Read) : Type 0 where
+  pub fewer : left ≤ allowance
+  pub none-made : left ≡ allowance → q ≡ r
+  pub some-made : left < allowance → (cap : Cap) (n : ℕ) → Quiet F cap (allowance - left) (goes r) n (goes q) (bump r n)
