@@ -1,0 +1,60 @@
+-- The order of the codes around each code: by computing all 32 orders. Assumes nothing.
+use mathlib.Core.Path.{_≡_, refl, sym, ap, _∙_, subst}
+use mathlib.Core.Bool.{Bool, true, false, cond}
+use mathlib.Core.List.{List, [], _∷_}
+use Prim.Native.Nat.{ℕ, zero, suc, _+_, _*_, _/_, _%_, _≤_, _<_}
+use lib.Dec.{T, eqb, ltb, leb, ltb→lt, leb→le}
+use Rattle.key_list.specs.Keys.{apart}
+use Rattle.key_codes.specs.Order.{unpack, ones, twos, orderOf}
+use Rattle.key_codes.proofs.Sets.{both, below, at, both-left, both-right}
+
+-- how many parts of two codes differ
+unfoldable pub differ : ℕ → ℕ → ℕ
+differ c x =
+    apart (c / 16 % 2) (x / 16 % 2) + apart (c / 8 % 2) (x / 8 % 2) + apart (c / 4 % 2) (x / 4 % 2) + apart (c / 2 % 2) (x / 2 % 2) + apart (c % 2) (x % 2)
+
+-- where x stands around c: by the parts that differ, then by code
+unfoldable pub rank : ℕ → ℕ → ℕ
+rank c x = differ c x * 32 + x
+
+-- codes of five bits, each of a rank above the one before it, the first of at least m
+unfoldable pub rising : ℕ → ℕ → List ℕ → Bool
+rising c m [] = true
+rising c m (x ∷ l) = both (ltb x 32) (both (leb m (rank c x)) (rising c (suc (rank c x)) l))
+
+pub record Step (c m x : ℕ) (l : List ℕ) : Type 0 where
+  pub small : x < 32
+  pub late : m ≤ rank c x
+  pub rest : T (rising c (suc (rank c x)) l)
+
+pub step : (c m x : ℕ) (l : List ℕ) → T (rising c m (x ∷ l)) → Step c m x l
+unfolding rising
+step c m x l t =
+    let u = both (leb m (rank c x)) (rising c (suc (rank c x)) l) in
+    let w = both-right (ltb x 32) u t in
+    record { small = ltb→lt x 32 (both-left (ltb x 32) u t); late = leb→le m (rank c x) (both-left (leb m (rank c x)) (rising c (suc (rank c x)) l) w); rest = both-right (leb m (rank c x)) (rising c (suc (rank c x)) l) w }
+
+-- whether x is in the list
+unfoldable pub among : ℕ → List ℕ → Bool
+among x [] = false
+among x (y ∷ l) = cond (eqb x y) true (among x l)
+
+complete : ℕ → Bool
+complete c = below (λ (x : ℕ). among x (orderOf c)) 32
+
+right : ℕ → Bool
+right c = both (rising c 0 (orderOf c)) (complete c)
+
+all-right : T (below right 32)
+unfolding apart unpack ones twos orderOf right rising rank differ complete among
+all-right = tt
+
+-- the order around c rises,
+pub order-rises : (c : ℕ) → c < 32 → T (rising c 0 (orderOf c))
+unfolding right
+order-rises c h = both-left (rising c 0 (orderOf c)) (complete c) (at right 32 all-right c h)
+
+-- and has every code
+pub order-all : (c : ℕ) → c < 32 → (x : ℕ) → x < 32 → T (among x (orderOf c))
+unfolding right complete
+order-all c h x k = at (λ (z : ℕ). among z (orderOf c)) 32 (both-right (rising c 0 (orderOf c)) (complete c) (at right 32 all-right c h)) x k

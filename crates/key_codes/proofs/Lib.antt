@@ -1,0 +1,6 @@
+pub mod Sets
+pub mod Around
+pub mod ByCodes
+pub mod Doubling
+pub mod Puts
+pub mod Image

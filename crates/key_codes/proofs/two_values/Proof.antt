@@ -1,0 +1,39 @@
+use Prim.Native.Nat.{ℕ}
+use mathlib.Core.Path.{_≡_, ap₂, _∙_}
+use Rattle.key_list.specs.Keys.{keysOf}
+use Rattle.key_codes.specs.Codes.{keysIn}
+use Rattle.key_codes.specs.Order.{orderOf}
+use Rattle.key_codes.proofs.Around.{order-rises}
+use Rattle.key_codes.proofs.ByCodes.{keys-by-codes}
+use Rattle.key_codes.proofs.Puts.{hashed}
+use borrow.Author.Needs.{needs}
+use Rattle.key_codes.proofs.two_values.Statement.{statement}
+use Rattle.key_codes.proofs.two_values.Tie as tie
+
+fill-requires : tie.Need-fill-requires
+fill-requires c κs = search needs
+
+code-of-requires : tie.Need-code-of-requires
+code-of-requires c κs = search needs
+
+codes-in-requires : tie.Need-codes-in-requires
+codes-in-requires c κs = search needs
+
+listed-requires : tie.Need-listed-requires
+listed-requires c κs = search needs
+
+returns : tie.Need-returns
+returns c =
+    let s = c .before .before .before .before .before .before .before in
+    let lo = s .args .lo in
+    let B = s .args .bins in
+    let code = c .before .before .before .before .code-of in
+    let valid = c .before .before .before .codes-in in
+    let same : keysIn lo (valid .result) (orderOf (code .result)) ≡ keysOf (s .args .c) lo (s .args .hi)
+    = ap₂ (λ (v x : ℕ). keysIn lo v (orderOf x)) (valid .ensures) (code .ensures .0) ∙ keys-by-codes (s .args .c) lo (s .args .hi) B (s .pre .0) in
+    let h = hashed lo B _ (valid .result) (code .result) 9223372036854775808 (c .before .before .before .before .before .fill .ensures) _ _ _ (orderOf (code .result)) (order-rises (code .result) (code .ensures .1)) (c .listed .ensures) in
+    rw same at h
+
+pub two-values-spec : {M : Type 1} → statement M
+two-values-spec =
+    tie.close (tie.spec fill-requires code-of-requires codes-in-requires listed-requires returns)

@@ -1,0 +1,4 @@
+pub mod Codes
+pub mod Order
+pub mod Valid
+pub mod Steps

@@ -1,0 +1,63 @@
+// The hashes of a pattern's keys, in order: by five-bit codes where no part of the key has more than two values, and else by the general list.
+mod codes;
+mod ends;
+mod sums;
+mod valid;
+
+ghost use mathlib.Core.Path.{_≡_};
+ghost use Prim.Native.Nat.{_≤_};
+ghost use lib.ListN.{length};
+ghost use Rattle.float_order.specs.Ratios.{Ratios};
+ghost use Rattle.key_list.specs.Keys.{keysOf};
+ghost use Rattle.pattern_keys.specs.Ranges.{keysFor};
+ghost use Rattle.float_order.specs.KeyPart.{NarrowTolerance};
+ghost use Rattle.pattern_keys.specs.Steps.{Hashed};
+ghost use Rattle.key_codes.specs.Codes.{Pairs};
+
+// The hashes of the keys in ranges of at most two values a part: so many, to out.
+fn two_values(c: [u32; 5], lo: [u32; 5], hi: [u32; 5], bins: u32, out: &mut [u64; 1024]) -> usize
+    requires { ⌜ Pairs c lo hi bins × (length (now out) ≡ 1024) ⌝ }
+    ensures { λ n. ⌜ Hashed (now (out .exit)) n (keysOf c lo hi) bins ⌝ }
+{
+    let mut table = [0u64; 32];
+    sums::fill(lo, bins, &mut table);
+    let centre = codes::code_of(c, lo, hi, bins);
+    let valid = valid::codes_in(lo, hi);
+    codes::listed(centre, valid, &table, out)
+}
+
+fn no_keys() -> [[u16; 5]; 1024]
+    ensures { λ r. ⌜ length r ≡ 1024 ⌝ }
+{
+    [[0u16; 5]; 1024]
+}
+
+fn no_distances() -> [u64; 1024]
+    ensures { λ r. ⌜ length r ≡ 1024 ⌝ }
+{
+    [0u64; 1024]
+}
+
+// The same by the general list, whose arrays are made only here.
+fn by_list(r: [f32; 5], e: f32, bins: u32, out: &mut [u64; 1024]) -> usize
+    requires { ⌜ Ratios r × NarrowTolerance e bins × (length (now out) ≡ 1024) ⌝ }
+    ensures { λ n. ⌜ Hashed (now (out .exit)) n (keysFor r e bins) bins ⌝ }
+{
+    let mut list = no_keys();
+    let mut spare = no_keys();
+    let mut dist = no_distances();
+    pattern_keys::key_hashes(r, e, bins, out, &mut list, &mut spare, &mut dist)
+}
+
+// The hashes of the keys of five ratios, in the keys' order: so many, to out. What out holds past them is left open.
+pub fn key_hashes(r: [f32; 5], e: f32, bins: u32, out: &mut [u64; 1024]) -> usize
+    requires { ⌜ Ratios r × NarrowTolerance e bins × (length (now out) ≡ 1024) ⌝ }
+    ensures { λ n. ⌜ Hashed (now (out .exit)) n (keysFor r e bins) bins ⌝ }
+{
+    let lo = ends::lower(r, e, bins);
+    let hi = ends::upper(r, e, bins);
+    if ends::at_most_two(lo, hi) {
+        return two_values(key_hash::compute_pattern_key(r, bins), lo, hi, bins, out);
+    }
+    by_list(r, e, bins, out)
+}
