@@ -182,18 +182,6 @@ fn image_of(v: [[f32; 3]; 4]) -> Image
     Image { edge, ratios }
 }
 
-fn no_keys() -> [[u16; 5]; 1024]
-    ensures { λ r. ⌜ length r ≡ 1024 ⌝ }
-{
-    [[0u16; 5]; 1024]
-}
-
-fn no_distances() -> [u64; 1024]
-    ensures { λ r. ⌜ length r ≡ 1024 ⌝ }
-{
-    [0u64; 1024]
-}
-
 // What four directions show, and the hashes of their keys in order, so many of them.
 fn prepare(config: SearchConfig, v: [[f32; 3]; 4], hashes: &mut [u64; 1024]) -> Readied
     requires { ⌜ (settingsOk config ≡ true) × Directions v × (length (now hashes) ≡ 1024) ⌝ }
@@ -203,18 +191,7 @@ fn prepare(config: SearchConfig, v: [[f32; 3]; 4], hashes: &mut [u64; 1024]) -> 
     let ratios = image.ratios;
     let own = config.matching;
     let e = tolerance::max_error(own, config.error, config.bins);
-    let mut list = no_keys();
-    let mut spare = no_keys();
-    let mut dist = no_distances();
-    let n = pattern_keys::key_hashes(
-        ratios,
-        e,
-        config.bins,
-        hashes,
-        &mut list,
-        &mut spare,
-        &mut dist,
-    );
+    let n = key_codes::key_hashes(ratios, e, config.bins, hashes);
     Readied {
         keys: n as u32,
         image,

@@ -15,45 +15,27 @@ image-of-requires c κs = search needs
 max-error-requires : tie.Need-max-error-requires
 max-error-requires c κs = fitting (c .before .before .args .config) (c .before .before .pre .0) .narrow .few-bins
 
-no-keys-requires : tie.Need-no-keys-requires
-no-keys-requires c κs = search needs
-
-no-keys-requires-2 : tie.Need-no-keys-requires-2
-no-keys-requires-2 c κs = search needs
-
-no-distances-requires : tie.Need-no-distances-requires
-no-distances-requires c κs = search needs
-
 key-hashes-requires : tie.Need-key-hashes-requires
 key-hashes-requires c κs =
-    let b = c .before .before .before .before .before .before .before .before .before .before in
-    let m = c .before .before .before .before .before .before .before .before .before .image-of .ensures in
+    let b = c .before .before .before .before in
+    let m = c .before .before .before .image-of .ensures in
     let r : Ratios (imageOf (b .args .v) .ratios) = image-ratios-of (b .args .v) (b .pre .1) in
     let t = tolerance-of (b .args .config) (b .pre .0) in
-    (rw m r, rw (c .before .before .before .before .before .before .before .max-error .ensures) t, b .pre .2, c .before .before .before .before .before .before .no-keys .ensures, c .before .before .before .before .before .no-keys2 .ensures, c .before .before .before .before .no-distances .ensures)
+    (rw m r, rw (c .before .max-error .ensures) t, b .pre .2)
 
-cast-t18 : tie.Need-cast-t18
-cast-t18 c =
-    let b = c .before .before .before .before .before .before .before .before .before .before .before in
-    let m = c .before .before .before .before .before .before .before .before .before .before .image-of .ensures in
+cast-t10 : tie.Need-cast-t10
+cast-t10 c =
+    let b = c .before .before .before .before .before in
+    let m = c .before .before .before .before .image-of .ensures in
     let r : Ratios (imageOf (b .args .v) .ratios) = image-ratios-of (b .args .v) (b .pre .1) in
     let k = keys-count (imageOf (b .args .v) .ratios) _ (b .args .config .bins) r (tolerance-of (b .args .config) (b .pre .0)) .1 in
-    let h = rw (m, c .before .before .before .before .before .before .before .before .max-error .ensures) at (c .key-hashes .ensures .0 .count) in
+    let h = rw (m, c .before .before .max-error .ensures) at (c .key-hashes .ensures .count) in
     record { fits = omega (arith, h, k) }
 
 returns : tie.Need-returns
 returns c =
-    prepared _ _ _ _ _ _ (c .before .before .before .before .before .before .before .before .before .before .image-of .ensures) (c .before .before .before .before .before .before .before .before .max-error .ensures) (c .key-hashes .ensures .0)
+    prepared _ _ _ _ _ _ (c .before .before .before .before .image-of .ensures) (c .before .before .max-error .ensures) (c .key-hashes .ensures)
 
 pub prepare-spec : {M : Type 1} → statement M
 prepare-spec =
-    tie.close
-    (tie.spec
-    image-of-requires
-    max-error-requires
-    no-keys-requires
-    no-keys-requires-2
-    no-distances-requires
-    key-hashes-requires
-    cast-t18
-    returns)
+    tie.close (tie.spec image-of-requires max-error-requires key-hashes-requires cast-t10 returns)
