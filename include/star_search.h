@@ -164,12 +164,19 @@ typedef struct StarSwept {
     uint64_t count;        /* how many values were written; 0 where refused */
 } StarSwept;
 
+/* A direction. */
+typedef struct StarVector {
+    float x;
+    float y;
+    float z;
+} StarVector;
+
 /* What star_complete gives back. */
 typedef struct StarCompleted {
     uint32_t answer;       /* STAR_DONE, STAR_NOT_DONE */
     uint32_t number;       /* the question's number where refused, else 0 */
-    float image[12];       /* four unit vectors x, y, z of the image, in matched order: vector i belongs to star vector i; all zero where refused */
-    float star[12];        /* four star vectors x, y, z, in the entry's order; all zero where refused */
+    StarVector image[4];   /* four unit vectors of the image, in matched order: image[i] belongs to star[i]; all zero where refused */
+    StarVector star[4];    /* the four star vectors, in the entry's order; all zero where refused */
 } StarCompleted;
 
 /*
@@ -280,6 +287,7 @@ STAR_LAYOUT(offsetof(StarPart, length) == 8);
 STAR_LAYOUT(sizeof(StarSwept) == 16);
 STAR_LAYOUT(offsetof(StarSwept, number) == 4);
 STAR_LAYOUT(offsetof(StarSwept, count) == 8);
+STAR_LAYOUT(sizeof(StarVector) == 12);
 STAR_LAYOUT(sizeof(StarCompleted) == 104);
 STAR_LAYOUT(offsetof(StarCompleted, number) == 4);
 STAR_LAYOUT(offsetof(StarCompleted, image) == 8);

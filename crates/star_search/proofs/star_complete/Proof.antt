@@ -1,0 +1,27 @@
+use mathlib.Core.Path.{ap, _∙_}
+use Rattle.complete.specs.Completing.{completedOf}
+use Rattle.star_search.specs.Handed.{completedNumbers}
+use borrow.Author.Needs.{needs}
+use Rattle.star_search.proofs.star_complete.Statement.{statement}
+use Rattle.star_search.proofs.star_complete.Tie as tie
+
+candidate-of-requires : tie.Need-candidate-of-requires
+candidate-of-requires c κs = search needs
+
+complete-requires : tie.Need-complete-requires
+complete-requires c κs = search needs
+
+completed-numbers-requires : tie.Need-completed-numbers-requires
+completed-numbers-requires c κs = search needs
+
+returns : tie.Need-returns
+returns c =
+    let a = c .before .before .before .before .before .before .before .args in
+    c .completed-numbers .ensures
+    ∙ ap completedNumbers
+    (c .before .complete .ensures
+    ∙ ap (λ x. completedOf (a .centroids .now) (a .order .now) (a .passes .now) (a .stars .now) x (a .scale)) (c .before .before .candidate-of .ensures))
+
+pub star-complete-spec : {M : Type 1} → statement M
+star-complete-spec =
+    tie.close (tie.spec candidate-of-requires complete-requires completed-numbers-requires returns)
