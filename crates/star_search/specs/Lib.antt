@@ -1,2 +1,4 @@
 pub mod Received
 pub mod Handed
+pub mod Calls
+pub mod Claims
