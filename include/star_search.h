@@ -57,7 +57,7 @@ extern "C" {
 #endif
 
 /* Room on the stack, in bytes, that is enough for any call below. */
-#define STAR_STACK 131072u
+#define STAR_STACK 65536u
 
 /* StarState.phase. Any other number is refused with 8. */
 enum {

@@ -77,9 +77,9 @@ no-bins stars table radius own field = refl
 
 pub unknown-settings : UnknownSettings
 unfolding configOf
-unknown-settings s (inl (inl h)) = unfit-option _ _ _ _ _ _ (inl (unknown-option (s .matchinggiven) (s .matching) h))
-unknown-settings s (inl (inr h)) = unfit-option _ _ _ _ _ _ (inr (unknown-option (s .fovgiven) (s .fov) h))
-unknown-settings s (inr h) = rw (unknown-bins (s .capgiven) (s .bins) h) (no-bins (s .checking) (s .error) (s .radius) _ _)
+unknown-settings s (inl (inl h)) = unfit-option _ _ _ _ _ _ (inl (unknown-option (s .«matching_given») (s .matching) h))
+unknown-settings s (inl (inr h)) = unfit-option _ _ _ _ _ _ (inr (unknown-option (s .«fov_given») (s .fov) h))
+unknown-settings s (inr h) = rw (unknown-bins (s .«cap_given») (s .bins) h) (no-bins (s .checking) (s .error) (s .radius) _ _)
 
 -- ---- questions 12 and 8
 pub unknown-error : UnknownError

@@ -30,7 +30,7 @@ ZeroIsFresh = stateOf (plainNumbers 0 0 0 0) ≡ start
 
 -- Settings with an unknown tag are refused by question 4: `unknown-settings`.
 abbrev pub UnknownSettings : Type 0
-UnknownSettings = (s : StarSettings) → ((1 < s .matchinggiven) ⊎ (1 < s .fovgiven)) ⊎ (1 < s .capgiven) → settingsOk (configOf s) ≡ false
+UnknownSettings = (s : StarSettings) → ((1 < s .«matching_given») ⊎ (1 < s .«fov_given»)) ⊎ (1 < s .«cap_given») → settingsOk (configOf s) ≡ false
 
 -- A sweep with an unknown tag is refused by question 12: `unknown-error`.
 abbrev pub UnknownError : Type 0

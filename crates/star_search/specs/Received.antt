@@ -36,13 +36,13 @@ binsOf tag bins = cond (leb tag 1) bins 0
 unfoldable pub configOf : StarSettings → SearchConfig
 configOf s =
     record {
-      bins = binsOf (s .capgiven) (s .bins);
+      bins = binsOf (s .«cap_given») (s .bins);
       checking = s .checking;
       error = s .error;
       radius = s .radius;
-      matching = optionOf (s .matchinggiven) (s .matching);
-      fov = optionOf (s .fovgiven) (s .fov);
-      cap = capOf (s .capgiven) (s .cap);
+      matching = optionOf (s .«matching_given») (s .matching);
+      fov = optionOf (s .«fov_given») (s .fov);
+      cap = capOf (s .«cap_given») (s .cap);
       patterns = s .patterns;
     }
 

@@ -46,11 +46,11 @@ pub struct StarSettings {
     pub checking: u32,
     pub error: f32,
     pub radius: f32,
-    pub matchinggiven: u32,
+    pub matching_given: u32,
     pub matching: f32,
-    pub fovgiven: u32,
+    pub fov_given: u32,
     pub fov: f32,
-    pub capgiven: u32,
+    pub cap_given: u32,
     pub reserved: u32,
     pub cap: u64,
     pub patterns: u64,
@@ -206,14 +206,14 @@ pub extern "C" fn star_entry(slots: u64, words: &[u64], packed: &[u8], slot: u64
 #[no_mangle]
 pub extern "C" fn star_sweep(
     estimate: f32,
-    given: u32,
+    error_given: u32,
     error: f32,
     step: f32,
     out: &mut [f32],
 ) -> StarSwept
-    ensures { λ r. ⌜ (r ≡ sweptNumbers (sweptOf estimate (optionOf given error) step (length (now (out .entry))))) × (now (out .exit) ≡ laterOf estimate (optionOf given error) step (now (out .entry))) ⌝ }
+    ensures { λ r. ⌜ (r ≡ sweptNumbers (sweptOf estimate (optionOf «error_given» error) step (length (now (out .entry))))) × (now (out .exit) ≡ laterOf estimate (optionOf «error_given» error) step (now (out .entry))) ⌝ }
 {
-    let reach = option_of(given, error);
+    let reach = option_of(error_given, error);
     let swept = fov_sweep::build_fov_sweep(estimate, reach, step, out);
     swept_numbers(swept)
 }

@@ -54,10 +54,10 @@ fn bins_of(tag: u32, bins: u32) -> u32
 pub fn config_of(raw: StarSettings) -> SearchConfig
     ensures { λ r. ⌜ r ≡ configOf raw ⌝ }
 {
-    let matching = option_of(raw.matchinggiven, raw.matching);
-    let fov = option_of(raw.fovgiven, raw.fov);
-    let cap = cap_of(raw.capgiven, raw.cap);
-    let bins = bins_of(raw.capgiven, raw.bins);
+    let matching = option_of(raw.matching_given, raw.matching);
+    let fov = option_of(raw.fov_given, raw.fov);
+    let cap = cap_of(raw.cap_given, raw.cap);
+    let bins = bins_of(raw.cap_given, raw.bins);
     SearchConfig {
         bins,
         checking: raw.checking,
