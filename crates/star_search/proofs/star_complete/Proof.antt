@@ -1,6 +1,4 @@
-use mathlib.Core.Path.{ap, _∙_}
-use Rattle.complete.specs.Completing.{completedOf}
-use Rattle.star_search.specs.Handed.{completedNumbers}
+use Rattle.star_search.proofs.Through.{complete-through}
 use borrow.Author.Needs.{needs}
 use Rattle.star_search.proofs.star_complete.Statement.{statement}
 use Rattle.star_search.proofs.star_complete.Tie as tie
@@ -17,10 +15,13 @@ completed-numbers-requires c κs = search needs
 returns : tie.Need-returns
 returns c =
     let a = c .before .before .before .before .before .before .before .args in
-    c .completed-numbers .ensures
-    ∙ ap completedNumbers
-    (c .before .complete .ensures
-    ∙ ap (λ x. completedOf (a .centroids .now) (a .order .now) (a .passes .now) (a .stars .now) x (a .scale)) (c .before .before .candidate-of .ensures))
+    complete-through (a .centroids .now) (a .order .now) (a .passes .now) (a .stars .now) (a .candidate) (a .scale)
+    (c .before .before .candidate-of .result)
+    (c .before .before .candidate-of .ensures)
+    (c .before .complete .result)
+    (c .before .complete .ensures)
+    (c .completed-numbers .result)
+    (c .completed-numbers .ensures)
 
 pub star-complete-spec : {M : Type 1} → statement M
 star-complete-spec =

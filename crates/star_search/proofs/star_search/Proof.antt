@@ -1,8 +1,4 @@
-use mathlib.Core.Path.{ap, ap₂, _∙_}
-use Rattle.undivided_run.specs.Step.{searchCall}
-use Rattle.search_feed.specs.Data.{frameOf, dataOf}
-use Rattle.pattern_search.specs.Answers.{lentOf, searched}
-use Rattle.star_search.specs.Handed.{answerOf}
+use Rattle.star_search.proofs.Through.{search-through}
 use borrow.Author.Needs.{needs}
 use Rattle.star_search.proofs.star_search.Statement.{statement}
 use Rattle.star_search.proofs.star_search.Tie as tie
@@ -22,12 +18,15 @@ answer-of-requires c κs = search needs
 returns : tie.Need-returns
 returns c =
     let a = c .before .before .before .before .before .before .before .before .before .before .args in
-    c .answer-of .ensures
-    ∙ ap (answerOf (a .state))
-    (c .before .search .ensures
-    ∙ ap₂ (λ st cf. searched (searchCall st (lentOf (dataOf (frameOf (a .centroids .now) (a .order .now) cf (a .passes .now)) (a .slots) (a .words .now) (a .packed .now) (a .stars .now)) (a .allowance))))
+    search-through (a .centroids .now) (a .order .now) (a .passes .now) (a .stars .now) (a .settings) (a .slots) (a .words .now) (a .packed .now) (a .state) (a .allowance)
+    (c .before .before .before .config-of .result)
+    (c .before .before .before .config-of .ensures)
+    (c .before .before .state-of .result)
     (c .before .before .state-of .ensures)
-    (c .before .before .before .config-of .ensures))
+    (c .before .search .result)
+    (c .before .search .ensures)
+    (c .answer-of .result)
+    (c .answer-of .ensures)
 
 pub star-search-spec : {M : Type 1} → statement M
 star-search-spec =
