@@ -1,10 +1,11 @@
 /*
  * star_search.h: the lost-in-space pattern search of a star camera, for hosts in C and C++.
  *
- * Link target/staticlib/libstar_search.a, which `rt staticlib star_search` writes for x86-64 (System V calling convention).
+ * Link target/staticlib/libstar_search.a, which `rt staticlib star_search` writes for plain x86-64 (System V calling convention). Of the
+ * C library it needs memset alone. The header is C11, and C++11 or later.
  *
  * How a host works with it
- *   1. Once for each table: star_open. 0 means that every search on this table can trust it.
+ *   1. Once for each table: star_open. Where it answers 0, no list of calls from a fresh state on this table is refused under 6 to 9.
  *   2. For each frame: start from a fresh state (all zero) and call star_search with an allowance of table reads, handing each
  *      call the state that the last one gave back, until the answer is STAR_ENDED. However the reads are divided into calls,
  *      the candidates, their order and the counts are the same.
@@ -17,14 +18,15 @@
  *   - It keeps no pointer and no state between calls, has no global data, no heap, no input or output, no locks and no system
  *     calls. It may run in several threads at once, also on the same table, as long as nobody writes what is lent meanwhile.
  *   - It writes to nothing that it is lent but `out` of star_sweep, and to that only when it is not refused.
- *   - Results don't depend on the floating-point environment's flags; the rounding mode must be to nearest, subnormals must be kept
- *     (no flush-to-zero, no denormals-are-zero), as they are by default.
+ *   - The same call gives the same answer, bit for bit: there is no clock and nothing random in it.
  *
  * What the host owes
  *   - Each array is lent as a pointer and a number of ELEMENTS (not bytes). It stays readable, and unwritten, until the call returns.
  *   - Each pointer is aligned for its element type and is not null, also where the length is 0: lend any object of that type then.
  *   - `out` of star_sweep is writable and no other thread touches it during the call.
- *   - The stack has room: STAR_STACK bytes are enough for any call (measured; include/test holds the archive to it).
+ *   - The stack has room: STAR_STACK bytes are enough for any call. The deepest needs about 40 kB, and include/test holds the archive to the limit.
+ *   - The floating-point control register is as C starts with it: rounding to nearest, exceptions masked, subnormals kept (no
+ *     flush-to-zero, no denormals-are-zero).
  *   - floats are IEEE 754 binary32; all arrays are in the host's byte order, which is little-endian on x86-64.
  *
  * The questions (a refusal's number)

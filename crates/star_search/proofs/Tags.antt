@@ -5,6 +5,7 @@ use native.Mathlib.Omega.{arith}
 use mathlib.Core.Bool.{Bool, true, false, _&&_, false≢true}
 use mathlib.Core.Logic.{_⊎_, inl, inr}
 use mathlib.Core.List.{List}
+use mathlib.Core.Option.{Option, none, some}
 use lib.Dec.{leb}
 use lib.Ieee.{Float, le, lt}
 use lib.Ieee.Scale.{finite}
@@ -19,12 +20,28 @@ use Rattle.undivided_run.specs.Step.{start}
 use Rattle.float_order.specs.Value.{zero32, one32}
 use Rattle.tolerance.specs.declared.Tolerance.{Tolerance}
 use Rattle.tolerance.specs.Tolerances.{optionFits, narrowFits, settingsFit}
+use Rattle.pattern_entry.specs.Ask.{ask, every}
 use Rattle.pattern_entry.specs.Entry.{bytesAt}
+use Rattle.pattern_entry.specs.Stars.{starsFit}
+use Rattle.pattern_catalog.specs.Blocks.{tableFits}
+use Rattle.pattern_catalog.specs.Opening.{opening, indexRight, slotSound}
 use Rattle.pattern_catalog.specs.Answers.{Answer, filledAt, empty, refused}
 use Rattle.fov_sweep.specs.Sweep.{pi, sweepFits}
 use Rattle.star_search.specs.Received.{optionOf, binsOf, configOf, positionOf, unknown, endedOf, stateOf}
-use Rattle.star_search.specs.Handed.{phaseNumbers}
-use Rattle.star_search.specs.Claims.{StateBack, ZeroIsFresh, UnknownSettings, UnknownError, UnknownState, PartAsNumbers}
+use Rattle.star_search.specs.Handed.{openedNumber, phaseNumbers}
+use Rattle.star_search.specs.Claims.{ZeroPasses, StateBack, ZeroIsFresh, UnknownSettings, UnknownError, UnknownState, PartAsNumbers}
+
+-- ---- the opening check
+zero-none : (a b c d : Bool) → let o : Option ℕ = ask a (some 6) (ask b (some 7) (ask c (some 10) (ask d (some 9) none))) in openedNumber o ≡ 0 → o ≡ none
+zero-none false b c d h = absurd (omega (arith, h))
+zero-none true false c d h = absurd (omega (arith, h))
+zero-none true true false d h = absurd (omega (arith, h))
+zero-none true true true false h = absurd (omega (arith, h))
+zero-none true true true true h = refl
+
+pub zero-passes : ZeroPasses
+unfolding opening
+zero-passes slots words packed stars = (zero-none (tableFits slots words) (starsFit stars) (indexRight slots words packed) (every slots (slotSound words packed stars)), λ e. ap openedNumber e)
 
 -- ---- a state and back
 phase-back : (p : Phase) (n m : ℕ) → stateOf (phaseNumbers p n m) ≡ record { phase = p; patterns = n; reads = m }

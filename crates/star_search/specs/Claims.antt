@@ -2,8 +2,9 @@
 use mathlib.Core.Path.{_≡_}
 use Prim.Native.Nat.{ℕ, _<_}
 use mathlib.Core.Bool.{false}
-use mathlib.Core.Logic.{_⊎_}
+use mathlib.Core.Logic.{_⊎_, _↔_}
 use mathlib.Core.List.{List}
+use mathlib.Core.Option.{none}
 use lib.ListN.{take, drop}
 use lib.Ieee.{Float}
 use Rattle.undivided_run.specs.declared.State.{State}
@@ -14,11 +15,16 @@ use Rattle.search_feed.specs.Feed.{feed}
 use Rattle.search_feed.specs.Claims.{settingsOk}
 use Rattle.pattern_catalog.specs.Answers.{Answer}
 use Rattle.pattern_catalog.specs.SlotRead.{partOf}
+use Rattle.pattern_catalog.specs.Opening.{opening}
 use Rattle.fov_sweep.specs.Sweep.{sweepFits}
 use Rattle.star_search.specs.Received.{optionOf, configOf, stateOf}
-use Rattle.star_search.specs.Handed.{plainNumbers, stateNumbers, partNumbers}
+use Rattle.star_search.specs.Handed.{openedNumber, plainNumbers, stateNumbers, partNumbers}
 use Rattle.star_search.specs.declared.StarSettings.{StarSettings}
 use Rattle.star_search.specs.declared.StarState.{StarState}
+
+-- The opening check answers 0 exactly where the table passes: `zero-passes`.
+abbrev pub ZeroPasses : Type 0
+ZeroPasses = (slots : ℕ) (words packed : List ℕ) (stars : List Float) → (openedNumber (opening slots words packed stars) ≡ 0) ↔ (opening slots words packed stars ≡ none)
 
 -- A state handed over and received again is the same state: `state-back`.
 abbrev pub StateBack : Type 0
