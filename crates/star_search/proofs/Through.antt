@@ -12,13 +12,13 @@ use Rattle.pattern_search.specs.declared.Searched.{Searched}
 use Rattle.pattern_search.specs.Answers.{lentOf, searched}
 use Rattle.complete.specs.declared.Completed.{Completed}
 use Rattle.complete.specs.Completing.{completedOf}
-use Rattle.star_search.specs.Received.{configOf, stateOf, candidateOf}
-use Rattle.star_search.specs.Handed.{answerOf, completedNumbers}
-use Rattle.star_search.specs.declared.StarSettings.{StarSettings}
-use Rattle.star_search.specs.declared.StarState.{StarState}
-use Rattle.star_search.specs.declared.StarCandidate.{StarCandidate}
-use Rattle.star_search.specs.declared.StarAnswer.{StarAnswer}
-use Rattle.star_search.specs.declared.StarCompleted.{StarCompleted}
+use Rattle.star_numbers.specs.Received.{configOf, stateOf, candidateOf}
+use Rattle.star_numbers.specs.Handed.{answerOf, completedNumbers}
+use Rattle.star_numbers.specs.declared.StarSettings.{StarSettings}
+use Rattle.star_numbers.specs.declared.StarState.{StarState}
+use Rattle.star_numbers.specs.declared.StarCandidate.{StarCandidate}
+use Rattle.star_numbers.specs.declared.StarAnswer.{StarAnswer}
+use Rattle.star_numbers.specs.declared.StarCompleted.{StarCompleted}
 
 module _ (centroids : List Float) (order : List ℕ) (passes stars : List Float) where
   module _ (settings : StarSettings) (slots : ℕ) (words packed : List ℕ) (raw : StarState) (allowance : ℕ) where

@@ -9,12 +9,12 @@ use Rattle.undivided_run.specs.Step.{start}
 use Rattle.search_feed.specs.Data.{Data, frameOf, dataOf}
 use Rattle.search_feed.specs.Look.{noCandidate}
 use Rattle.pattern_search.specs.Listed.{Given, returned, answersOf, replies, lastState, AllSame, Opens, onRun}
-use Rattle.star_search.specs.Received.{configOf, stateOf}
-use Rattle.star_search.specs.Handed.{statusNumber, candidateNumbers, answerOf}
-use Rattle.star_search.specs.declared.StarSettings.{StarSettings}
-use Rattle.star_search.specs.declared.StarState.{StarState}
-use Rattle.star_search.specs.declared.StarCandidate.{StarCandidate}
-use Rattle.star_search.specs.declared.StarAnswer.{StarAnswer}
+use Rattle.star_numbers.specs.Received.{configOf, stateOf}
+use Rattle.star_numbers.specs.Handed.{statusNumber, candidateNumbers, answerOf}
+use Rattle.star_numbers.specs.declared.StarSettings.{StarSettings}
+use Rattle.star_numbers.specs.declared.StarState.{StarState}
+use Rattle.star_numbers.specs.declared.StarCandidate.{StarCandidate}
+use Rattle.star_numbers.specs.declared.StarAnswer.{StarAnswer}
 
 -- what one call is lent beside the state
 pub record Call : Type 0 where

@@ -17,10 +17,10 @@ use Rattle.pattern_catalog.specs.Answers.{Answer}
 use Rattle.pattern_catalog.specs.SlotRead.{partOf}
 use Rattle.pattern_catalog.specs.Opening.{opening}
 use Rattle.fov_sweep.specs.Sweep.{sweepFits}
-use Rattle.star_search.specs.Received.{optionOf, configOf, stateOf}
-use Rattle.star_search.specs.Handed.{openedNumber, plainNumbers, stateNumbers, partNumbers}
-use Rattle.star_search.specs.declared.StarSettings.{StarSettings}
-use Rattle.star_search.specs.declared.StarState.{StarState}
+use Rattle.star_numbers.specs.Received.{optionOf, configOf, stateOf}
+use Rattle.star_numbers.specs.Handed.{openedNumber, plainNumbers, stateNumbers, partNumbers}
+use Rattle.star_numbers.specs.declared.StarSettings.{StarSettings}
+use Rattle.star_numbers.specs.declared.StarState.{StarState}
 
 -- The opening check answers 0 exactly where the table passes: `zero-passes`.
 abbrev pub ZeroPasses : Type 0

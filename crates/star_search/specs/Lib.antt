@@ -1,4 +1,2 @@
-pub mod Received
-pub mod Handed
 pub mod Calls
 pub mod Claims

@@ -1,8 +1,5 @@
 // The search for hosts in C: plain numbers in, plain numbers out. include/star_search.h says to a host what is said here; each function's
 // contract is the definition of the call under it, between the definitions of what is received and of what is handed over.
-mod handed;
-mod received;
-
 ghost use mathlib.Core.Path.{_≡_};
 ghost use lib.ListN.{length};
 ghost use Rattle.undivided_run.specs.Step.{searchCall};
@@ -12,109 +9,19 @@ ghost use Rattle.pattern_catalog.specs.SlotRead.{slotRead};
 ghost use Rattle.pattern_catalog.specs.Opening.{opening};
 ghost use Rattle.fov_sweep.specs.Sweep.{sweptOf, laterOf};
 ghost use Rattle.complete.specs.Completing.{completedOf};
-ghost use Rattle.star_search.specs.Received.{optionOf, configOf, stateOf, candidateOf};
-ghost use Rattle.star_search.specs.Handed.{openedNumber, answerOf, slotNumbers, partNumbers, sweptNumbers, completedNumbers};
-use crate::handed::answer_of;
-use crate::handed::completed_numbers;
-use crate::handed::swept_numbers;
-use crate::received::candidate_of;
-use crate::received::config_of;
-use crate::received::option_of;
-use crate::received::state_of;
+ghost use Rattle.star_numbers.specs.Received.{optionOf, configOf, stateOf, candidateOf};
+ghost use Rattle.star_numbers.specs.Handed.{openedNumber, answerOf, slotNumbers, partNumbers, sweptNumbers, completedNumbers};
 use pattern_catalog::Found;
 use pattern_catalog::Opened;
 use pattern_catalog::Slot;
-
-// Where a search stands. phase: 0 fresh, 1 at its next read, 2 ended; status: 0 too few, 1 no match, 2 timeout.
-#[repr(C)]
-pub struct StarState {
-    pub phase: u32,
-    pub status: u32,
-    pub pass: u32,
-    pub four: [u32; 4],
-    pub key: u32,
-    pub probe: u32,
-    pub reserved: u32,
-    pub patterns: u64,
-    pub reads: u64,
-}
-
-// The settings. A tag says whether the number after it is given: 1, or absent: 0.
-#[repr(C)]
-pub struct StarSettings {
-    pub bins: u32,
-    pub checking: u32,
-    pub error: f32,
-    pub radius: f32,
-    pub matching_given: u32,
-    pub matching: f32,
-    pub fov_given: u32,
-    pub fov: f32,
-    pub cap_given: u32,
-    pub reserved: u32,
-    pub cap: u64,
-    pub patterns: u64,
-}
-
-// A candidate. rebuild: 1 where the mark is set.
-#[repr(C)]
-pub struct StarCandidate {
-    pub slot: u64,
-    pub pass: u32,
-    pub place: [u32; 4],
-    pub star: [u32; 4],
-    pub field: f32,
-    pub rebuild: u32,
-    pub reserved: u32,
-}
-
-// A call's answer: 0 candidate, 1 allowance used, 2 ended, 3 refused; number: the status, or the question's number.
-#[repr(C)]
-pub struct StarAnswer {
-    pub answer: u32,
-    pub number: u32,
-    pub candidate: StarCandidate,
-    pub state: StarState,
-}
-
-// What a slot holds: 0 filled, 1 empty, 2 refused; number: the question's.
-#[repr(C)]
-pub struct StarSlot {
-    pub answer: u32,
-    pub number: u32,
-}
-
-// A part of the packed section, in bytes.
-#[repr(C)]
-pub struct StarPart {
-    pub offset: u64,
-    pub length: u64,
-}
-
-// The sweep's answer: 0 written, so many values; 1 refused; number: the question's.
-#[repr(C)]
-pub struct StarSwept {
-    pub answer: u32,
-    pub number: u32,
-    pub count: u64,
-}
-
-// A vector.
-#[repr(C)]
-pub struct StarVector {
-    pub x: f32,
-    pub y: f32,
-    pub z: f32,
-}
-
-// Completing's answer: 0 done; 1 refused; number: the question's. Four image vectors, then four star vectors.
-#[repr(C)]
-pub struct StarCompleted {
-    pub answer: u32,
-    pub number: u32,
-    pub image: [StarVector; 4],
-    pub star: [StarVector; 4],
-}
+use star_numbers::StarAnswer;
+use star_numbers::StarCandidate;
+use star_numbers::StarCompleted;
+use star_numbers::StarPart;
+use star_numbers::StarSettings;
+use star_numbers::StarSlot;
+use star_numbers::StarState;
+use star_numbers::StarSwept;
 
 // The opening check: 0, or the number of the question that refuses.
 #[no_mangle]
@@ -143,8 +50,8 @@ pub extern "C" fn star_search(
 ) -> StarAnswer
     ensures { λ r. ⌜ r ≡ answerOf state (searched (searchCall (stateOf state) (lentOf (dataOf (frameOf (now (centroids .entry)) (now (order .entry)) (configOf settings) (now (passes .entry))) slots (now (words .entry)) (now (packed .entry)) (now (stars .entry))) allowance))) ⌝ }
 {
-    let config = config_of(settings);
-    let from = state_of(state);
+    let config = star_numbers::config_of(settings);
+    let from = star_numbers::state_of(state);
     let said = pattern_search::search(
         centroids,
         order,
@@ -157,7 +64,7 @@ pub extern "C" fn star_search(
         from,
         allowance,
     );
-    answer_of(state, said)
+    star_numbers::answer_of(state, said)
 }
 
 // What a slot holds.
@@ -213,9 +120,9 @@ pub extern "C" fn star_sweep(
 ) -> StarSwept
     ensures { λ r. ⌜ (r ≡ sweptNumbers (sweptOf estimate (optionOf «error_given» error) step (length (now (out .entry))))) × (now (out .exit) ≡ laterOf estimate (optionOf «error_given» error) step (now (out .entry))) ⌝ }
 {
-    let reach = option_of(error_given, error);
+    let reach = star_numbers::option_of(error_given, error);
     let swept = fov_sweep::build_fov_sweep(estimate, reach, step, out);
-    swept_numbers(swept)
+    star_numbers::swept_numbers(swept)
 }
 
 // Completing a candidate.
@@ -230,7 +137,7 @@ pub extern "C" fn star_complete(
 ) -> StarCompleted
     ensures { λ r. ⌜ r ≡ completedNumbers (completedOf (now (centroids .entry)) (now (order .entry)) (now (passes .entry)) (now (stars .entry)) (candidateOf candidate) scale) ⌝ }
 {
-    let told = candidate_of(candidate);
+    let told = star_numbers::candidate_of(candidate);
     let completed = complete::complete(centroids, order, passes, stars, told, scale);
-    completed_numbers(completed)
+    star_numbers::completed_numbers(completed)
 }
