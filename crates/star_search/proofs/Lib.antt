@@ -1,0 +1,3 @@
+pub mod Tags
+pub mod Calls
+pub mod Through

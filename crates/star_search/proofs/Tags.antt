@@ -1,0 +1,116 @@
+-- What is received and handed over: the same state back, unknown tags refused, the part as numbers. Assumes nothing.
+use mathlib.Core.Path.{_≡_, refl, sym, ap, _∙_}
+use Prim.Native.Nat.{ℕ, _<_}
+use native.Mathlib.Omega.{arith}
+use mathlib.Core.Bool.{Bool, true, false, _&&_, false≢true}
+use mathlib.Core.Logic.{_⊎_, inl, inr}
+use mathlib.Core.List.{List}
+use mathlib.Core.Option.{Option, none, some}
+use lib.Dec.{leb}
+use lib.Ieee.{Float, le, lt}
+use lib.Ieee.Scale.{finite}
+use borrow.Author.Tests.{eq-eqb, ne-eqb, lt-leb}
+use Rattle.undivided_run.specs.declared.State.{State}
+use Rattle.undivided_run.specs.declared.Phase.{Phase}
+use Rattle.undivided_run.specs.declared.Phase.the-variants.{Fresh, At, Ended}
+use Rattle.undivided_run.specs.declared.Status.{Status}
+use Rattle.undivided_run.specs.declared.Status.the-variants.{TooFew, NoMatch, Timeout}
+use Rattle.undivided_run.specs.Eight.{phaseFits}
+use Rattle.undivided_run.specs.Step.{start}
+use Rattle.float_order.specs.Value.{zero32, one32}
+use Rattle.tolerance.specs.declared.Tolerance.{Tolerance}
+use Rattle.tolerance.specs.Tolerances.{optionFits, narrowFits, settingsFit}
+use Rattle.pattern_entry.specs.Ask.{ask, every}
+use Rattle.pattern_entry.specs.Entry.{bytesAt}
+use Rattle.pattern_entry.specs.Stars.{starsFit}
+use Rattle.pattern_catalog.specs.Blocks.{tableFits}
+use Rattle.pattern_catalog.specs.Opening.{opening, indexRight, slotSound}
+use Rattle.pattern_catalog.specs.Answers.{Answer, filledAt, empty, refused}
+use Rattle.fov_sweep.specs.Sweep.{pi, sweepFits}
+use Rattle.star_numbers.specs.Received.{optionOf, binsOf, configOf, positionOf, unknown, endedOf, stateOf}
+use Rattle.star_numbers.specs.Handed.{openedNumber, phaseNumbers}
+use Rattle.star_search.specs.Claims.{ZeroPasses, StateBack, ZeroIsFresh, UnknownSettings, UnknownError, UnknownState, PartAsNumbers}
+
+-- ---- the opening check
+zero-none : (a b c d : Bool) → let o : Option ℕ = ask a (some 6) (ask b (some 7) (ask c (some 10) (ask d (some 9) none))) in openedNumber o ≡ 0 → o ≡ none
+zero-none false b c d h = absurd (omega (arith, h))
+zero-none true false c d h = absurd (omega (arith, h))
+zero-none true true false d h = absurd (omega (arith, h))
+zero-none true true true false h = absurd (omega (arith, h))
+zero-none true true true true h = refl
+
+pub zero-passes : ZeroPasses
+unfolding opening
+zero-passes slots words packed stars = (zero-none (tableFits slots words) (starsFit stars) (indexRight slots words packed) (every slots (slotSound words packed stars)), λ e. ap openedNumber e)
+
+-- ---- a state and back
+phase-back : (p : Phase) (n m : ℕ) → stateOf (phaseNumbers p n m) ≡ record { phase = p; patterns = n; reads = m }
+unfolding stateOf positionOf endedOf
+phase-back Fresh n m = refl
+phase-back (At r) n m = refl
+phase-back (Ended TooFew) n m = refl
+phase-back (Ended NoMatch) n m = refl
+phase-back (Ended Timeout) n m = refl
+
+pub state-back : StateBack
+state-back s = phase-back (s .phase) (s .patterns) (s .reads)
+
+pub zero-is-fresh : ZeroIsFresh
+unfolding stateOf start
+zero-is-fresh = refl
+
+-- ---- unknown tags
+unknown-option : (tag : ℕ) (x : Float) → 1 < tag → optionFits (optionOf tag x) ≡ false
+unfolding optionOf
+unknown-option tag x h = rw (ne-eqb tag 0 (λ e. omega arith), ne-eqb tag 1 (λ e. omega arith))
+
+unknown-bins : (tag bins : ℕ) → 1 < tag → binsOf tag bins ≡ 0
+unfolding binsOf
+unknown-bins tag bins h = rw (lt-leb _ _ h)
+
+-- ---- question 4
+false-right : (b : Bool) → (b && false) ≡ false
+false-right true = refl
+false-right false = refl
+
+-- an option that doesn't fit, among the other tests
+option-out : (p a b n : Bool) → (a ≡ false) ⊎ (b ≡ false) → (p && (a && b) && n) ≡ false
+option-out false a b n h = refl
+option-out true false b n h = refl
+option-out true true false n h = refl
+option-out true true true n (inl e) = absurd (false≢true (sym e))
+option-out true true true n (inr e) = absurd (false≢true (sym e))
+
+abbrev others : ℕ → ℕ → Float → Float → Bool
+others bins stars table radius = (leb 1 bins && leb bins 4096) && leb stars 64 && (le zero32 table && le table one32) && (finite radius && le zero32 radius)
+
+unfit-option : (bins stars : ℕ) (table radius : Float) (own field : Tolerance) → (optionFits own ≡ false) ⊎ (optionFits field ≡ false) → settingsFit bins stars table radius own field ≡ false
+unfolding settingsFit
+unfit-option bins stars table radius own field h = option-out (others bins stars table radius) (optionFits own) (optionFits field) (narrowFits own table bins) h
+
+no-bins : (stars : ℕ) (table radius : Float) (own field : Tolerance) → settingsFit 0 stars table radius own field ≡ false
+unfolding settingsFit
+no-bins stars table radius own field = refl
+
+pub unknown-settings : UnknownSettings
+unfolding configOf
+unknown-settings s (inl (inl h)) = unfit-option _ _ _ _ _ _ (inl (unknown-option (s .«matching_given») (s .matching) h))
+unknown-settings s (inl (inr h)) = unfit-option _ _ _ _ _ _ (inr (unknown-option (s .«fov_given») (s .fov) h))
+unknown-settings s (inr h) = rw (unknown-bins (s .«cap_given») (s .bins) h) (no-bins (s .checking) (s .error) (s .radius) _ _)
+
+-- ---- questions 12 and 8
+pub unknown-error : UnknownError
+unfolding sweepFits
+unknown-error estimate error step tag h = rw (unknown-option tag error h) (false-right ((lt zero32 estimate && lt estimate pi) && (finite step && lt zero32 step)))
+
+pub unknown-state : UnknownState
+unfolding stateOf endedOf unknown phaseFits
+unknown-state D s (inl h) = rw (ne-eqb (s .phase) 0 (λ e. omega arith), ne-eqb (s .phase) 1 (λ e. omega arith), ne-eqb (s .phase) 2 (λ e. omega arith))
+unknown-state D s (inr (p, h)) = rw (p, ne-eqb (s .status) 0 (λ e. omega arith), ne-eqb (s .status) 1 (λ e. omega arith), ne-eqb (s .status) 2 (λ e. omega arith))
+
+-- ---- the part
+pub part-as-numbers : PartAsNumbers
+unfolding bytesAt
+part-as-numbers packed (filledAt p) = refl
+part-as-numbers packed empty = refl
+part-as-numbers packed (refused n) = refl

@@ -1,0 +1,34 @@
+-- A call through C, put together from its steps. Assumes nothing.
+use mathlib.Core.Path.{_≡_, ap, ap₂, _∙_}
+use Prim.Native.Nat.{ℕ}
+use mathlib.Core.List.{List}
+use lib.Ieee.{Float}
+use Rattle.undivided_run.specs.declared.State.{State}
+use Rattle.undivided_run.specs.Step.{searchCall}
+use Rattle.search_feed.specs.declared.SearchConfig.{SearchConfig}
+use Rattle.search_feed.specs.Data.{frameOf, dataOf}
+use Rattle.candidates.specs.declared.Candidate.{Candidate}
+use Rattle.pattern_search.specs.declared.Searched.{Searched}
+use Rattle.pattern_search.specs.Answers.{lentOf, searched}
+use Rattle.complete.specs.declared.Completed.{Completed}
+use Rattle.complete.specs.Completing.{completedOf}
+use Rattle.star_numbers.specs.Received.{configOf, stateOf, candidateOf}
+use Rattle.star_numbers.specs.Handed.{answerOf, completedNumbers}
+use Rattle.star_numbers.specs.declared.StarSettings.{StarSettings}
+use Rattle.star_numbers.specs.declared.StarState.{StarState}
+use Rattle.star_numbers.specs.declared.StarCandidate.{StarCandidate}
+use Rattle.star_numbers.specs.declared.StarAnswer.{StarAnswer}
+use Rattle.star_numbers.specs.declared.StarCompleted.{StarCompleted}
+
+module _ (centroids : List Float) (order : List ℕ) (passes stars : List Float) where
+  module _ (settings : StarSettings) (slots : ℕ) (words packed : List ℕ) (raw : StarState) (allowance : ℕ) where
+    -- what the search says of a state and settings
+    abbrev says : State → SearchConfig → Searched
+    says st config = searched (searchCall st (lentOf (dataOf (frameOf centroids order config passes) slots words packed stars) allowance))
+
+    pub search-through : (config : SearchConfig) → config ≡ configOf settings → (st : State) → st ≡ stateOf raw → (r : Searched) → r ≡ says st config → (a : StarAnswer) → a ≡ answerOf raw r → a ≡ answerOf raw (says (stateOf raw) (configOf settings))
+    search-through config p st q r e a f = f ∙ ap (answerOf raw) (e ∙ ap₂ says q p)
+
+  module _ (raw : StarCandidate) (scale : Float) where
+    pub complete-through : (c : Candidate) → c ≡ candidateOf raw → (r : Completed) → r ≡ completedOf centroids order passes stars c scale → (a : StarCompleted) → a ≡ completedNumbers r → a ≡ completedNumbers (completedOf centroids order passes stars (candidateOf raw) scale)
+    complete-through c p r e a f = f ∙ ap completedNumbers (e ∙ ap (λ x. completedOf centroids order passes stars x scale) p)

@@ -1,0 +1,51 @@
+-- What a host may rely on beside the contracts, as statements; proofs/ has a proof of each under the name given beside it. Definitions only.
+use mathlib.Core.Path.{_≡_}
+use Prim.Native.Nat.{ℕ, _<_}
+use mathlib.Core.Bool.{false}
+use mathlib.Core.Logic.{_⊎_, _↔_}
+use mathlib.Core.List.{List}
+use mathlib.Core.Option.{none}
+use lib.ListN.{take, drop}
+use lib.Ieee.{Float}
+use Rattle.undivided_run.specs.declared.State.{State}
+use Rattle.undivided_run.specs.Eight.{eightOk}
+use Rattle.undivided_run.specs.Step.{start}
+use Rattle.search_feed.specs.Data.{Data}
+use Rattle.search_feed.specs.Feed.{feed}
+use Rattle.search_feed.specs.Claims.{settingsOk}
+use Rattle.pattern_catalog.specs.Answers.{Answer}
+use Rattle.pattern_catalog.specs.SlotRead.{partOf}
+use Rattle.pattern_catalog.specs.Opening.{opening}
+use Rattle.fov_sweep.specs.Sweep.{sweepFits}
+use Rattle.star_numbers.specs.Received.{optionOf, configOf, stateOf}
+use Rattle.star_numbers.specs.Handed.{openedNumber, plainNumbers, stateNumbers, partNumbers}
+use Rattle.star_numbers.specs.declared.StarSettings.{StarSettings}
+use Rattle.star_numbers.specs.declared.StarState.{StarState}
+
+-- The opening check answers 0 exactly where the table passes: `zero-passes`.
+abbrev pub ZeroPasses : Type 0
+ZeroPasses = (slots : ℕ) (words packed : List ℕ) (stars : List Float) → (openedNumber (opening slots words packed stars) ≡ 0) ↔ (opening slots words packed stars ≡ none)
+
+-- A state handed over and received again is the same state: `state-back`.
+abbrev pub StateBack : Type 0
+StateBack = (s : State) → stateOf (stateNumbers s) ≡ s
+
+-- All zero is the fresh state: `zero-is-fresh`.
+abbrev pub ZeroIsFresh : Type 0
+ZeroIsFresh = stateOf (plainNumbers 0 0 0 0) ≡ start
+
+-- Settings with an unknown tag are refused by question 4: `unknown-settings`.
+abbrev pub UnknownSettings : Type 0
+UnknownSettings = (s : StarSettings) → ((1 < s .«matching_given») ⊎ (1 < s .«fov_given»)) ⊎ (1 < s .«cap_given») → settingsOk (configOf s) ≡ false
+
+-- A sweep with an unknown tag is refused by question 12: `unknown-error`.
+abbrev pub UnknownError : Type 0
+UnknownError = (estimate error step : Float) (tag : ℕ) → 1 < tag → sweepFits estimate (optionOf tag error) step ≡ false
+
+-- A state with an unknown phase, or ended with an unknown status, is refused by question 8, whatever is lent: `unknown-state`.
+abbrev pub UnknownState : Type 0
+UnknownState = (D : Data) (s : StarState) → (2 < s .phase) ⊎ ((s .phase ≡ 2) × (2 < s .status)) → eightOk (feed D) (stateOf s) ≡ false
+
+-- Offset and length are the part that the slot read hands back: `part-as-numbers`.
+abbrev pub PartAsNumbers : Type 0
+PartAsNumbers = (packed : List ℕ) (a : Answer) → take (partNumbers a .length) (drop (partNumbers a .offset) packed) ≡ partOf packed a
