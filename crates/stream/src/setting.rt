@@ -1,20 +1,20 @@
 // The records that set something: table, frame, settings, state.
 ghost use Prim.Native.Nat.{_<_};
-use crate::desk::Desk;
-use crate::desk::Frame;
-use crate::desk::Table;
-use crate::desk::Taken;
-use crate::desk::with_frame;
-use crate::desk::with_table;
-use crate::read::fill_bytes;
-use crate::read::fill_floats;
-use crate::read::fill_longs;
-use crate::read::fill_words;
-use crate::read::long_of;
-use crate::read::next_words;
-use crate::read::pass_over;
+use crate::Desk;
+use crate::Frame;
+use crate::Table;
+use crate::held::Taken;
+use crate::held::with_frame;
+use crate::held::with_table;
 use combinations::Four;
 use search_feed::SearchConfig;
+use stream_read::fill_bytes;
+use stream_read::fill_floats;
+use stream_read::fill_longs;
+use stream_read::fill_words;
+use stream_read::long_of;
+use stream_read::next_words;
+use stream_read::pass_over;
 use tolerance::Tolerance;
 use undivided_run::Cap;
 use undivided_run::Phase;
@@ -42,6 +42,7 @@ fn table_size(longs: u32, bytes: u32, floats: u32) -> u64 {
 
 // A table's three arrays, and what the payload has after them.
 fn fill_table(
+    fd: i32,
     longs: u32,
     bytes: u32,
     floats: u32,
@@ -54,19 +55,19 @@ fn fill_table(
     if length < size {
         return false;
     }
-    if !fill_longs(table, longs as usize) {
+    if !fill_longs(fd, table, longs as usize) {
         return false;
     }
-    if !fill_bytes(packed, bytes as usize) {
+    if !fill_bytes(fd, packed, bytes as usize) {
         return false;
     }
-    if !pass_over(padding(bytes)) {
+    if !pass_over(fd, padding(bytes)) {
         return false;
     }
-    if !fill_floats(stars, floats as usize) {
+    if !fill_floats(fd, stars, floats as usize) {
         return false;
     }
-    pass_over(length - size)
+    pass_over(fd, length - size)
 }
 
 // The table of four counts.
@@ -81,6 +82,7 @@ fn table_of(slots: u32, longs: u32, bytes: u32, floats: u32) -> Table {
 
 // A table record.
 pub fn take_table(
+    fd: i32,
     desk: Desk,
     length: u64,
     table: &mut [u64],
@@ -90,12 +92,12 @@ pub fn take_table(
     if length < 16 {
         return Taken { ok: false, desk };
     }
-    let counts = next_words(4);
+    let counts = next_words(fd, 4);
     if !counts.ok {
         return Taken { ok: false, desk };
     }
     let w = counts.w;
-    let ok = fill_table(w[1], w[2], w[3], length, table, packed, stars);
+    let ok = fill_table(fd, w[1], w[2], w[3], length, table, packed, stars);
     let set = table_of(w[0], w[1], w[2], w[3]);
     let after = with_table(desk, set);
     Taken { ok, desk: after }
@@ -108,6 +110,7 @@ fn frame_size(coords: u32, places: u32, triples: u32) -> u64 {
 
 // A frame's three arrays, and what the payload has after them.
 fn fill_frame(
+    fd: i32,
     n: u32,
     m: u32,
     k: u32,
@@ -120,16 +123,16 @@ fn fill_frame(
     if length < size {
         return false;
     }
-    if !fill_floats(coords, n as usize) {
+    if !fill_floats(fd, coords, n as usize) {
         return false;
     }
-    if !fill_words(places, m as usize) {
+    if !fill_words(fd, places, m as usize) {
         return false;
     }
-    if !fill_floats(triples, k as usize) {
+    if !fill_floats(fd, triples, k as usize) {
         return false;
     }
-    pass_over(length - size)
+    pass_over(fd, length - size)
 }
 
 // The frame of three counts.
@@ -143,6 +146,7 @@ fn frame_of(n: u32, m: u32, k: u32) -> Frame {
 
 // A frame record.
 pub fn take_frame(
+    fd: i32,
     desk: Desk,
     length: u64,
     coords: &mut [f32],
@@ -152,12 +156,12 @@ pub fn take_frame(
     if length < 12 {
         return Taken { ok: false, desk };
     }
-    let counts = next_words(3);
+    let counts = next_words(fd, 3);
     if !counts.ok {
         return Taken { ok: false, desk };
     }
     let w = counts.w;
-    let ok = fill_frame(w[0], w[1], w[2], length, coords, places, triples);
+    let ok = fill_frame(fd, w[0], w[1], w[2], length, coords, places, triples);
     let set = frame_of(w[0], w[1], w[2]);
     let after = with_frame(desk, set);
     Taken { ok, desk: after }

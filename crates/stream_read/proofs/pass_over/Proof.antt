@@ -1,12 +1,12 @@
 use borrow.Author.Needs.{needs}
-use Rattle.replay.proofs.read.pass_over.Statement.{statement}
-use Rattle.replay.proofs.read.pass_over.Tie as tie
+use Rattle.stream_read.proofs.pass_over.Statement.{statement}
+use Rattle.stream_read.proofs.pass_over.Tie as tie
 
 abbrev Inv-loop : tie.InvT-loop
-Inv-loop n left₀ left = Unit {0}
+Inv-loop fd n left₀ left = Unit {0}
 
 abbrev μ-loop : tie.MeasureT-loop
-μ-loop n left₀ left = left
+μ-loop fd n left₀ left = left
 
 loop-holds : tie.Need-loop-holds Inv-loop μ-loop
 loop-holds c = search needs

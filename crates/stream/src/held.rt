@@ -1,31 +1,12 @@
-// What the records so far have set: how much of each lent slice is taken, the settings and the state.
+// What the records so far have set, and the same with one part exchanged for another.
+use crate::Desk;
+use crate::Frame;
+use crate::Table;
 use search_feed::SearchConfig;
 use tolerance::Tolerance;
 use undivided_run::Cap;
 use undivided_run::Phase;
 use undivided_run::State;
-
-// The table: its slots, and how many words, packed bytes and star floats it has.
-pub struct Table {
-    pub slots: u64,
-    pub words: usize,
-    pub packed: usize,
-    pub stars: usize,
-}
-
-// The frame: how many coordinates, places and floats of triples it has.
-pub struct Frame {
-    pub coords: usize,
-    pub places: usize,
-    pub triples: usize,
-}
-
-pub struct Desk {
-    pub table: Table,
-    pub frame: Frame,
-    pub config: SearchConfig,
-    pub state: State,
-}
 
 // Whether a record could be taken, and the desk after it.
 pub struct Taken {
@@ -124,36 +105,4 @@ pub fn with_state(desk: Desk, state: State) -> Desk {
         config,
         state,
     }
-}
-
-// The first n of a lent slice; none where it is shorter.
-pub fn first_longs<'a>(s: &'a [u64], n: usize) -> &'a [u64] {
-    if n <= s.len() {
-        return &s[0..n];
-    }
-    &s[0..0]
-}
-
-// The first n of a lent slice; none where it is shorter.
-pub fn first_words<'a>(s: &'a [u32], n: usize) -> &'a [u32] {
-    if n <= s.len() {
-        return &s[0..n];
-    }
-    &s[0..0]
-}
-
-// The first n of a lent slice; none where it is shorter.
-pub fn first_bytes<'a>(s: &'a [u8], n: usize) -> &'a [u8] {
-    if n <= s.len() {
-        return &s[0..n];
-    }
-    &s[0..0]
-}
-
-// The first n of a lent slice; none where it is shorter.
-pub fn first_floats<'a>(s: &'a [f32], n: usize) -> &'a [f32] {
-    if n <= s.len() {
-        return &s[0..n];
-    }
-    &s[0..0]
 }

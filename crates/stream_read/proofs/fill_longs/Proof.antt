@@ -3,14 +3,14 @@ use mathlib.Core.Path.{_≡_, _∙_}
 use native.Mathlib.Omega.{arith}
 use borrow.Author.Needs.{needs}
 use lib.ListN.{length, length-set}
-use Rattle.replay.proofs.read.fill_longs.Statement.{statement}
-use Rattle.replay.proofs.read.fill_longs.Tie as tie
+use Rattle.stream_read.proofs.fill_longs.Statement.{statement}
+use Rattle.stream_read.proofs.fill_longs.Tie as tie
 
 abbrev Inv-loop : tie.InvT-loop
-Inv-loop out₀ n i₀ out i = (length out ≡ length out₀) × (i ≤ n) × (n ≤ length out₀)
+Inv-loop fd out₀ n i₀ out i = (length out ≡ length out₀) × (i ≤ n) × (n ≤ length out₀)
 
 abbrev μ-loop : tie.MeasureT-loop
-μ-loop out₀ n i₀ out i = n - i
+μ-loop fd out₀ n i₀ out i = n - i
 
 returns : tie.Need-returns Inv-loop μ-loop
 returns c = search needs
