@@ -1,6 +1,7 @@
 //! `cases compare FIRST COUNT`: oracle and model beside each other on so many seeds.
 //! `cases huge`: the same on tables up to the most slots that question 6 lets through.
 //! `cases arc`: how far the arc of document 01 stands from the platform's arcsine.
+//! `cases story FOLDER`: the frames that the program `find` tells of, as its source, as a stream, and what it must say.
 //! `cases lists APART JOINED`: the lists, each by itself in one folder and all of them joined in another.
 
 mod compare;
@@ -14,6 +15,7 @@ mod questions;
 mod rng;
 mod sheet;
 mod sky;
+mod story;
 mod tables;
 
 use std::collections::BTreeMap;
@@ -177,6 +179,18 @@ fn measure_arc() -> bool {
     true
 }
 
+/// Writes what the program `find` has of the oracle's: its bundled data, what it must say, and the same as a stream.
+fn write_story(folder: &str) -> bool {
+    let story = story::Story::find();
+    story.check();
+    print!("seed {}\n{}", story.seed, story.expected());
+    let put = |name: &str, bytes: &[u8]| std::fs::write(format!("{folder}/{name}"), bytes).expect("a folder to write to");
+    put("bundled.rt", story.bundled().as_bytes());
+    put("stdout", story.expected().as_bytes());
+    put("story.stream", &story.stream());
+    true
+}
+
 /// Does what the first word asks for.
 fn main() {
     let words: Vec<String> = std::env::args().skip(1).collect();
@@ -185,6 +199,7 @@ fn main() {
         Some("compare") => compare_seeds(number(1), number(2)),
         Some("huge") => compare_huge(),
         Some("arc") => measure_arc(),
+        Some("story") => write_story(&words[1]),
         Some("lists") => write_lists(&words[1], &words[2]),
         _ => false,
     };

@@ -35,6 +35,18 @@ impl Attitude {
     /// Any attitude.
     pub fn random(rng: &mut Rng) -> Attitude {
         let z = direction(rng);
+        Attitude::along(rng, z)
+    }
+
+    /// An attitude that looks at a star.
+    pub fn towards(rng: &mut Rng, star: Star) -> Attitude {
+        let v = star.map(f64::from);
+        let length = dot(v, v).sqrt();
+        Attitude::along(rng, v.map(|part| part / length))
+    }
+
+    /// An attitude whose third axis is given.
+    fn along(rng: &mut Rng, z: [f64; 3]) -> Attitude {
         let side = cross(z, direction(rng));
         let length = dot(side, side).sqrt().max(1e-9);
         let x = side.map(|part| part / length);

@@ -1,22 +1,24 @@
 // The records that are answered: call, run, open, slot, sweep, complete.
-use crate::desk::Desk;
-use crate::desk::Taken;
-use crate::desk::first_bytes;
-use crate::desk::first_floats;
-use crate::desk::first_longs;
-use crate::desk::first_words;
-use crate::desk::with_state;
 use crate::lines::call_line;
 use crate::lines::complete_line;
 use crate::lines::open_line;
 use crate::lines::slot_line;
+use crate::lines::stream_line;
 use crate::lines::sweep_line;
-use crate::setting::option;
 use candidates::Candidate;
 use pattern_entry::StarIndex;
 use preprocess::Place;
+use stream::Desk;
+use stream::option;
+use stream::with_state;
 
-// One call and its line; `ok` says whether a run goes on after it.
+// Whether a run goes on after a call, and the desk after it.
+struct Called {
+    more: bool,
+    desk: Desk,
+}
+
+// One call and its line.
 fn call(
     desk: Desk,
     table: &[u64],
@@ -26,7 +28,7 @@ fn call(
     places: &[u32],
     triples: &[f32],
     allowance: u64,
-) -> Taken {
+) -> Called {
     let config = desk.config;
     let state = desk.state;
     let searched = pattern_search::search(
@@ -42,12 +44,36 @@ fn call(
         allowance,
     );
     let left = searched.state;
-    let ok = call_line(searched);
+    let more = call_line(searched);
     let after = with_state(desk, left);
-    Taken { ok, desk: after }
+    Called { more, desk: after }
 }
 
-// Calls until one ends the run; one call only where `once`.
+// A call record.
+pub fn one_call(
+    desk: Desk,
+    table: &[u64],
+    packed: &[u8],
+    stars: &[f32],
+    coords: &[f32],
+    places: &[u32],
+    triples: &[f32],
+    allowance: u64,
+) -> Desk {
+    let called = call(
+        desk,
+        table,
+        packed,
+        stars,
+        coords,
+        places,
+        triples,
+        allowance,
+    );
+    called.desk
+}
+
+// A run record: calls until one ends the run.
 pub fn calls(
     desk: Desk,
     table: &[u64],
@@ -57,24 +83,23 @@ pub fn calls(
     places: &[u32],
     triples: &[f32],
     allowance: u64,
-    once: bool,
 ) -> Desk {
-    let w = first_longs(table, desk.table.words);
-    let p = first_bytes(packed, desk.table.packed);
-    let s = first_floats(stars, desk.table.stars);
-    let c = first_floats(coords, desk.frame.coords);
-    let o = first_words(places, desk.frame.places);
-    let t = first_floats(triples, desk.frame.triples);
     let mut now_at = desk;
     let mut turns = u64::MAX;
     while turns > 0 {
-        let called = call(now_at, w, p, s, c, o, t, allowance);
+        let called = call(
+            now_at,
+            table,
+            packed,
+            stars,
+            coords,
+            places,
+            triples,
+            allowance,
+        );
         let d = called.desk;
         now_at = d;
-        if once {
-            return now_at;
-        }
-        if !called.ok {
+        if !called.more {
             return now_at;
         }
         turns -= 1;
@@ -83,22 +108,14 @@ pub fn calls(
 }
 
 // The opening check and its line.
-pub fn open_record(desk: Desk, table: &[u64], packed: &[u8], stars: &[f32]) {
-    let w = first_longs(table, desk.table.words);
-    let p = first_bytes(packed, desk.table.packed);
-    let s = first_floats(stars, desk.table.stars);
-    open_line(pattern_catalog::open_check(desk.table.slots, w, p, s));
+pub fn open_record(slots: u64, table: &[u64], packed: &[u8], stars: &[f32]) {
+    open_line(pattern_catalog::open_check(slots, table, packed, stars));
 }
 
 // A slot read and its line.
-pub fn slot_record(desk: Desk, table: &[u64], packed: &[u8], slot: u64) {
-    let w = first_longs(table, desk.table.words);
-    let p = first_bytes(packed, desk.table.packed);
-    let held = pattern_catalog::slot_of(desk.table.slots, w, p, slot);
-    slot_line(
-        held,
-        pattern_catalog::entry_of(desk.table.slots, w, p, slot),
-    );
+pub fn slot_record(slots: u64, table: &[u64], packed: &[u8], slot: u64) {
+    let held = pattern_catalog::slot_of(slots, table, packed, slot);
+    slot_line(held, pattern_catalog::entry_of(slots, table, packed, slot));
 }
 
 // A sweep into the first `room` of a lent slice, and its line; whether the slice has that room.
@@ -115,10 +132,14 @@ fn sweep_in(w: [u32; 13], out: &mut [f32]) -> bool {
     true
 }
 
-// A sweep and its line; false beyond 1,024 values.
-pub fn sweep_record(w: [u32; 13]) -> bool {
+// The sweep of record number n and its line; beyond 1,024 values the record can't be read.
+pub fn sweep_record(n: u64, w: [u32; 13]) -> bool {
     let mut out = [0.0f32; 1024];
-    sweep_in(w, &mut out)
+    let ok = sweep_in(w, &mut out);
+    if !ok {
+        stream_line(n);
+    }
+    ok
 }
 
 // The candidate of a payload.
@@ -143,19 +164,14 @@ fn candidate_of(w: [u32; 13]) -> Candidate {
 
 // A completing and its line.
 pub fn complete_record(
-    desk: Desk,
     w: [u32; 13],
     stars: &[f32],
     coords: &[f32],
     places: &[u32],
     triples: &[f32],
 ) {
-    let s = first_floats(stars, desk.table.stars);
-    let c = first_floats(coords, desk.frame.coords);
-    let o = first_words(places, desk.frame.places);
-    let t = first_floats(triples, desk.frame.triples);
     let told = candidate_of(w);
     let scale = float::from_bits(w[11]);
-    let completed = complete::complete(c, o, t, s, told, scale);
+    let completed = complete::complete(coords, places, triples, stars, told, scale);
     complete_line(completed);
 }

@@ -20,8 +20,8 @@ start-requires c κs = search needs
 loop-holds : tie.Need-loop-holds Inv-loop μ-loop
 loop-holds c = search needs
 
-next-record-requires : tie.Need-next-record-requires Inv-loop μ-loop
-next-record-requires c κs = search needs
+next-answer-requires : tie.Need-next-answer-requires Inv-loop μ-loop
+next-answer-requires c κs = search needs
 
 same-length : tie.Need-same-length Inv-loop μ-loop
 same-length c = omega (arith, c .before .before .before .before .before .before .before .before .before .before .before .before .before .before .before .before .before .before .before .before .before .before .loop .inv .0)
@@ -84,7 +84,7 @@ replay-spec =
     μ-loop
     start-requires
     loop-holds
-    next-record-requires
+    next-answer-requires
     same-length
     same-length-2
     same-length-3

@@ -3,28 +3,10 @@ use Rattle.replay.proofs.answering.calls.Statement.{statement}
 use Rattle.replay.proofs.answering.calls.Tie as tie
 
 abbrev Inv-loop : tie.InvT-loop
-Inv-loop table packed stars coords places triples allowance once w p s c o t now-at₀ turns₀ now-at turns = Unit {0}
+Inv-loop table packed stars coords places triples allowance now-at₀ turns₀ now-at turns = Unit {0}
 
 abbrev μ-loop : tie.MeasureT-loop
-μ-loop table packed stars coords places triples allowance once w p s c o t now-at₀ turns₀ now-at turns = turns
-
-first-longs-requires : tie.Need-first-longs-requires Inv-loop μ-loop
-first-longs-requires c κs = search needs
-
-first-bytes-requires : tie.Need-first-bytes-requires Inv-loop μ-loop
-first-bytes-requires c κs = search needs
-
-first-floats-requires : tie.Need-first-floats-requires Inv-loop μ-loop
-first-floats-requires c κs = search needs
-
-first-floats-requires-2 : tie.Need-first-floats-requires-2 Inv-loop μ-loop
-first-floats-requires-2 c κs = search needs
-
-first-words-requires : tie.Need-first-words-requires Inv-loop μ-loop
-first-words-requires c κs = search needs
-
-first-floats-requires-3 : tie.Need-first-floats-requires-3 Inv-loop μ-loop
-first-floats-requires-3 c κs = search needs
+μ-loop table packed stars coords places triples allowance now-at₀ turns₀ now-at turns = turns
 
 loop-holds : tie.Need-loop-holds Inv-loop μ-loop
 loop-holds c = search needs
@@ -35,9 +17,6 @@ call-requires c κs = search needs
 returns : tie.Need-returns Inv-loop μ-loop
 returns c = search needs
 
-returns-2 : tie.Need-returns-2 Inv-loop μ-loop
-returns-2 c = search needs
-
 sub-turns : tie.Need-sub-turns Inv-loop μ-loop
 sub-turns c = search needs
 
@@ -47,8 +26,8 @@ loop-less c = search needs
 loop-again : tie.Need-loop-again Inv-loop μ-loop
 loop-again c = search needs
 
-returns-3 : tie.Need-returns-3 Inv-loop μ-loop
-returns-3 c = search needs
+returns-2 : tie.Need-returns-2 Inv-loop μ-loop
+returns-2 c = search needs
 
 pub calls-spec : {M : Type 1} → statement M
 calls-spec =
@@ -56,17 +35,10 @@ calls-spec =
     (tie.spec
     Inv-loop
     μ-loop
-    first-longs-requires
-    first-bytes-requires
-    first-floats-requires
-    first-floats-requires-2
-    first-words-requires
-    first-floats-requires-3
     loop-holds
     call-requires
     returns
-    returns-2
     sub-turns
     loop-less
     loop-again
-    returns-3)
+    returns-2)

@@ -1,0 +1,65 @@
+// Searches two bundled frames in a bundled table, or the frames of the replay stream that its argument names, and tells what each search does.
+
+mod bundled;
+mod recorded;
+
+use crate::recorded::tell_stream;
+use telling::table_line;
+use telling::tell_search;
+use telling::text;
+
+// One bundled frame.
+fn tell_bundled(name: &[u8], coords: &[f32], places: &[u32]) {
+    let words = bundled::WORDS;
+    let packed = bundled::PACKED;
+    let stars = bundled::STARS;
+    let triples = bundled::PASSES;
+    text(name);
+    tell_search(
+        bundled::config(),
+        bundled::SLOTS,
+        &words,
+        &packed,
+        &stars,
+        coords,
+        places,
+        &triples,
+        stream::fresh(),
+    );
+}
+
+// The bundled table and the two frames.
+fn tell_frames() {
+    let words = bundled::WORDS;
+    let packed = bundled::PACKED;
+    let stars = bundled::STARS;
+    table_line(bundled::SLOTS, &words, &packed, &stars);
+    let spots_a = bundled::SPOTS_A;
+    let order_a = bundled::ORDER_A;
+    tell_bundled(b"frame A: ", &spots_a, &order_a);
+    let spots_b = bundled::SPOTS_B;
+    let order_b = bundled::ORDER_B;
+    tell_bundled(b"frame B: ", &spots_b, &order_b);
+}
+
+// The stream in the file of a name.
+fn tell_file(path: &[u8]) {
+    let fd = os::open_read(path);
+    if fd < 0 {
+        text(b"can't open ");
+        text(path);
+        text(b"\n");
+        return;
+    }
+    tell_stream(fd);
+}
+
+fn main() {
+    if os::arg_count() < 2 {
+        tell_frames();
+        return;
+    }
+    let mut path = io::buffer();
+    let n = os::arg(1, &mut path);
+    tell_file(&path[..n]);
+}

@@ -1,0 +1,190 @@
+// The records of a stream, each search in it told.
+use stream::Desk;
+use stream::Record;
+use stream::Request;
+use stream::with_state;
+use stream_read::first_bytes;
+use stream_read::first_floats;
+use stream_read::first_longs;
+use stream_read::first_words;
+use telling::number;
+use telling::table_line;
+use telling::tell_call;
+use telling::tell_search;
+use telling::text;
+
+// Whether the stream goes on after a record, and the desk after it.
+struct Told {
+    more: bool,
+    desk: Desk,
+}
+
+// The name that a search in a stream goes by: its record's number, from 0.
+fn record_name(n: u64) {
+    text(b"record ");
+    number(n);
+    text(b": ");
+}
+
+// What record number n asks for, told over the lent parts. Slot reads, sweeps and completings are no searches, and are passed over.
+fn tell(
+    n: u64,
+    request: Request,
+    desk: Desk,
+    table: &[u64],
+    packed: &[u8],
+    stars: &[f32],
+    coords: &[f32],
+    places: &[u32],
+    triples: &[f32],
+) -> Told {
+    let config = desk.config;
+    let state = desk.state;
+    let slots = desk.table.slots;
+    match request {
+        Request::Call(allowance) => {
+            record_name(n);
+            let left = tell_call(
+                config,
+                slots,
+                table,
+                packed,
+                stars,
+                coords,
+                places,
+                triples,
+                state,
+                allowance,
+            );
+            let after = with_state(desk, left);
+            Told {
+                more: true,
+                desk: after,
+            }
+        }
+        Request::Run(_) => {
+            record_name(n);
+            let left = tell_search(
+                config,
+                slots,
+                table,
+                packed,
+                stars,
+                coords,
+                places,
+                triples,
+                state,
+            );
+            let after = with_state(desk, left);
+            Told {
+                more: true,
+                desk: after,
+            }
+        }
+        Request::Open => {
+            table_line(slots, table, packed, stars);
+            Told { more: true, desk }
+        }
+        Request::Broken => {
+            text(b"the stream can't be read from record ");
+            number(n);
+            text(b" on\n");
+            Told { more: false, desk }
+        }
+        Request::End => Told { more: false, desk },
+        _ => Told { more: true, desk },
+    }
+}
+
+// What record number n asks for, told over as much of the lent slices as the desk says is taken.
+fn tell_lent(
+    n: u64,
+    record: Record,
+    table: &[u64],
+    packed: &[u8],
+    stars: &[f32],
+    coords: &[f32],
+    places: &[u32],
+    triples: &[f32],
+) -> Told {
+    let request = record.request;
+    let desk = record.desk;
+    tell(
+        n,
+        request,
+        desk,
+        first_longs(table, desk.table.words),
+        first_bytes(packed, desk.table.packed),
+        first_floats(stars, desk.table.stars),
+        first_floats(coords, desk.frame.coords),
+        first_words(places, desk.frame.places),
+        first_floats(triples, desk.frame.triples),
+    )
+}
+
+// Record number n, read and told.
+fn next_told(
+    fd: i32,
+    n: u64,
+    desk: Desk,
+    table: &mut [u64],
+    packed: &mut [u8],
+    stars: &mut [f32],
+    coords: &mut [f32],
+    places: &mut [u32],
+    triples: &mut [f32],
+) -> Told {
+    let r = stream::next_record(fd, desk, table, packed, stars, coords, places, triples);
+    tell_lent(
+        n,
+        r,
+        &*table,
+        &*packed,
+        &*stars,
+        &*coords,
+        &*places,
+        &*triples,
+    )
+}
+
+// Record after record. A stream has fewer than 2^64 of them.
+fn tell_records(
+    fd: i32,
+    table: &mut [u64],
+    packed: &mut [u8],
+    stars: &mut [f32],
+    coords: &mut [f32],
+    places: &mut [u32],
+    triples: &mut [f32],
+) {
+    let mut desk = stream::start();
+    let mut n: u64 = 0;
+    while n < u64::MAX {
+        let t = next_told(fd, n, desk, table, packed, stars, coords, places, triples);
+        if !t.more {
+            return;
+        }
+        let d = t.desk;
+        desk = d;
+        n += 1;
+    }
+}
+
+// The stream that a descriptor gives.
+pub fn tell_stream(fd: i32) {
+    let mut table = stream_read::no_longs();
+    let mut packed = stream_read::no_bytes();
+    let mut stars = stream_read::no_stars();
+    let mut coords = stream_read::no_coords();
+    let mut places = stream_read::no_places();
+    let mut triples = stream_read::no_triples();
+    tell_records(
+        fd,
+        &mut table,
+        &mut packed,
+        &mut stars,
+        &mut coords,
+        &mut places,
+        &mut triples,
+    );
+}
