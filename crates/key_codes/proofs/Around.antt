@@ -1,8 +1,7 @@
 -- The order of the codes around each code: by computing all 32 orders. Assumes nothing.
-use mathlib.Core.Path.{_≡_, refl, sym, ap, _∙_, subst}
 use mathlib.Core.Bool.{Bool, true, false, cond}
 use mathlib.Core.List.{List, [], _∷_}
-use Prim.Native.Nat.{ℕ, zero, suc, _+_, _*_, _/_, _%_, _≤_, _<_}
+use Prim.Native.Nat.{ℕ, suc, _+_, _*_, _/_, _%_, _≤_, _<_}
 use lib.Dec.{T, eqb, ltb, leb, ltb→lt, leb→le}
 use Rattle.key_list.specs.Keys.{apart}
 use Rattle.key_codes.specs.Order.{unpack, ones, twos, orderOf}

@@ -1,23 +1,22 @@
 -- The keys of the valid codes, in the order around the image key's code, are the keys in the ranges. Assumes nothing.
-use mathlib.Core.Path.{_≡_, refl, sym, ap, _∙_, subst}
+use mathlib.Core.Path.{_≡_, refl, sym, ap, subst}
 use mathlib.Core.Logic.{_⊎_, inl, inr}
 use mathlib.Core.Bool.{Bool, true, false, cond}
 use mathlib.Core.List.{List, [], _∷_}
-use Prim.Native.Nat.{ℕ, zero, suc, _+_, _-_, _*_, _/_, _%_, _≤_, _<_}
+use Prim.Native.Nat.{ℕ, suc, _+_, _-_, _*_, _/_, _%_, _≤_, _<_}
 use native.Mathlib.Omega.{arith}
 use native.Mathlib.Nat.{le-trans}
 use borrow.Author.Tests.{eqb-true}
-use lib.Dec.{T, eqb, ltb, leb, eqb→eq, ltb→lt, leb→le}
-use lib.ListN.{length, getD}
+use lib.Dec.{T, eqb, eqb→eq}
+use lib.ListN.{getD}
 use Rattle.float_order.proofs.Order.{lt-or-le}
-use Rattle.key_hash.specs.Key.{hashOf}
 use Rattle.key_list.specs.Keys.{apart, far, keysOf}
 use Rattle.key_list.specs.Listed.{Has, here, there, Listed, Before, Precedes, Ordered, ordered, ordered-none}
 use Rattle.key_list.proofs.Unique.{keys-unique}
-use Rattle.key_codes.specs.Codes.{keyAt, codeOf, has, keysIn, Two, Pairs}
+use Rattle.key_codes.specs.Codes.{keyAt, codeOf, has, keysIn, Pairs}
 use Rattle.key_codes.specs.Order.{orderOf}
 use Rattle.key_codes.specs.Valid.{validOf}
-use Rattle.key_codes.proofs.Sets.{both, both-left, both-right, below, at, Good, valid-good, good-valid}
+use Rattle.key_codes.proofs.Sets.{at, Good, valid-good, good-valid}
 use Rattle.key_codes.proofs.Around.{differ, rank, rising, among, step, order-rises, order-all}
 
 -- ---- codes and their bits
@@ -48,7 +47,6 @@ module _ (l0 l1 l2 l3 l4 p q r s t p' q' r' s' t' : ℕ) (P : p' ≤ 1) (Q : q �
   lexicographic h =
       let k = (l0 + p) ∷ (l1 + q) ∷ (l2 + r) ∷ (l3 + s) ∷ (l4 + t) ∷ [] in
       let m = (l0 + p') ∷ (l1 + q') ∷ (l2 + r') ∷ (l3 + s') ∷ (l4 + t') ∷ [] in
-      let Same : ℕ → Type 0 = λ i. getD k i 0 ≡ getD m i 0 in
       let s0 : (i : ℕ) → i < 0 → getD k i 0 ≡ getD m i 0 = λ i z. absurd (omega arith) in
       elim (lt-or-le p p') [
         | inl a ↦ record { at = 0; early = omega arith; same = s0; less = omega arith }

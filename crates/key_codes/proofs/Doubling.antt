@@ -1,15 +1,14 @@
 -- The hashes of the codes by doubling: the codes from n on, for n = 1, 2, 4, 8 and 16, are those below n with one part more at its upper end. Assumes nothing.
-use mathlib.Core.Path.{_≡_, refl, sym, ap, ap₂, _∙_, subst}
-use mathlib.Core.Logic.{_⊎_, inl, inr}
+use mathlib.Core.Path.{_≡_, refl, sym, ap, _∙_, subst}
+use mathlib.Core.Logic.{inl, inr}
 use mathlib.Core.List.{List, [], _∷_}
-use Prim.Native.Nat.{ℕ, zero, suc, _+_, _-_, _*_, _/_, _%_, _^_, _≤_, _<_}
+use Prim.Native.Nat.{ℕ, _+_, _-_, _*_, _/_, _%_, _^_, _≤_, _<_}
 use native.Mathlib.Omega.{arith}
 use native.Mathlib.Nat.{mul-le-mul, pow-zero, pow-suc}
-use lib.Dec.{eqb, eqb→eq}
 use lib.ListN.{length, getD, set, length-set}
 use lib.Seq.{getD-set-same, getD-set-other}
 use Rattle.float_order.proofs.Order.{lt-or-le}
-use Rattle.key_hash.specs.Key.{hashOf, Parts}
+use Rattle.key_hash.specs.Key.{hashOf}
 use Rattle.key_codes.specs.Codes.{keyAt}
 use Rattle.key_codes.specs.Steps.{Doubled, Room, Sums}
 
@@ -37,12 +36,7 @@ half-more before after n v i h k t =
       long = length-set after (n + i) x ∙ l;
     }
 
--- ---- the hash of a code with one part more at its upper end
-weigh : (a b c d e p q r s t B : ℕ) → hashOf ((a + p) ∷ (b + q) ∷ (c + r) ∷ (d + s) ∷ (e + t) ∷ []) B ≡ hashOf (a ∷ b ∷ c ∷ d ∷ e ∷ []) B + (p * B ^ 0 + q * B ^ 1 + r * B ^ 2 + s * B ^ 3 + t * B ^ 4)
-unfolding hashOf
-weigh a b c d e p q r s t B = omega arith
-
--- the weight of a code's bits
+-- ---- the hash of a code: that of the lower ends, and the weight of its bits
 abbrev weight : ℕ → ℕ → ℕ
 weight B x = x / 16 % 2 * B ^ 0 + x / 8 % 2 * B ^ 1 + x / 4 % 2 * B ^ 2 + x / 2 % 2 * B ^ 3 + x % 2 * B ^ 4
 

@@ -9,7 +9,7 @@ use Rattle.float_order.specs.KeyPart.{bins32, lowOf}
 use Rattle.float_order.specs.Ratios.{Ratio, Ratios}
 use Rattle.float_order.proofs.Intervals.{in-finite}
 use Rattle.float_order.proofs.KeyParts.{lower-mono, bins-positive}
-use Rattle.key_hash.specs.Key.{keyOf, Parts}
+use Rattle.key_hash.specs.Key.{keyOf}
 use Rattle.pattern_keys.specs.Ranges.{lowerOf, upperOf}
 use Rattle.float_order.specs.KeyPart.{NarrowTolerance}
 use Rattle.pattern_keys.proofs.Ranges.{low-image, image-high, low-bound}

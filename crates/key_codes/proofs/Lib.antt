@@ -4,3 +4,4 @@ pub mod ByCodes
 pub mod Doubling
 pub mod Puts
 pub mod Image
+pub mod Cuts

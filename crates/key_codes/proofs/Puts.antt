@@ -1,19 +1,17 @@
 -- What is written to the list: the steps of `add` and `listed`, and the hashes that the list has at the end. Assumes nothing.
-use mathlib.Core.Path.{_≡_, refl, sym, ap, ap₂, _∙_, subst}
-use mathlib.Core.Logic.{_⊎_, inl, inr}
+use mathlib.Core.Path.{_≡_, refl, sym, ap, _∙_}
 use mathlib.Core.Bool.{Bool, true, false, cond}
 use mathlib.Core.List.{List, [], _∷_, _++_, append-assoc}
-use Prim.Native.Nat.{ℕ, zero, suc, _+_, _-_, _*_, _/_, _%_, _^_, _≤_, _<_}
+use Prim.Native.Nat.{ℕ, zero, suc, _+_, _-_, _/_, _%_, _≤_, _<_}
 use native.Mathlib.Omega.{arith}
 use native.Mathlib.Numerals.{add-one}
-use borrow.Author.Tests.{eq-eqb, ne-eqb}
-use lib.Dec.{T, eqb}
+use lib.Dec.{T}
 use lib.ListN.{length, take, getD, set, length-append, length-set}
 use lib.Seq.{take-suc-set, take-set-le, getD-take, length-take-le}
 use Rattle.key_hash.specs.Key.{hashOf}
 use Rattle.pattern_keys.specs.Steps.{Hashed}
 use Rattle.key_codes.specs.Codes.{keyAt, has, keysIn, chosen}
-use Rattle.key_codes.specs.Order.{unpack, orderOf}
+use Rattle.key_codes.specs.Order.{unpack}
 use Rattle.key_codes.specs.Steps.{Put, Sums}
 use Rattle.key_codes.proofs.Around.{rank, rising, step}
 
@@ -26,15 +24,6 @@ chosen-append a v (x ∷ k) l = go (has v x) (chosen-append a v k l)
     go : (b : Bool) → chosen a v (k ++ l) ≡ chosen a v k ++ chosen a v l → cond b (getD a x 0 ∷ chosen a v (k ++ l)) (chosen a v (k ++ l)) ≡ cond b (getD a x 0 ∷ chosen a v k) (chosen a v k) ++ chosen a v l
     go true e = ap (λ (z : List ℕ). getD a x 0 ∷ z) e
     go false e = e
-
-chosen-length : (a : List ℕ) (v : ℕ) (l : List ℕ) → length (chosen a v l) ≤ length l
-unfolding chosen
-chosen-length a v [] = omega arith
-chosen-length a v (x ∷ l) = go (has v x) (chosen-length a v l)
-  where
-    go : (b : Bool) → length (chosen a v l) ≤ length l → length (cond b (getD a x 0 ∷ chosen a v l) (chosen a v l)) ≤ suc (length l)
-    go true e = omega arith
-    go false e = omega arith
 
 -- ---- one turn of `add`: what is in the list and what is still to come make up what there was
 pub record Turn (a : List ℕ) (v : ℕ) (before after : List ℕ) (m n word count w left : ℕ) : Type 0 where

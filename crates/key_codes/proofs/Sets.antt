@@ -1,11 +1,10 @@
 -- Sets of codes as words, and tests of all 32 codes that antt computes. Assumes nothing.
 use mathlib.Core.Path.{_≡_, refl, sym, ap, _∙_, subst}
-use mathlib.Core.Logic.{_⊎_, inl, inr}
+use mathlib.Core.Logic.{inl, inr}
 use mathlib.Core.Bool.{Bool, true, false, cond}
 use mathlib.Core.List.{List}
-use Prim.Native.Nat.{ℕ, zero, suc, _+_, _/_, _%_, _^_, _≤_, _<_}
+use Prim.Native.Nat.{ℕ, zero, suc, _/_, _%_, _^_, _<_}
 use native.Mathlib.Omega.{arith}
-use native.Mathlib.Nat.{mod-lt}
 use borrow.Author.Tests.{eqb-true, eq-eqb}
 use lib.Bits.{bitAnd, and-shr, and-mod}
 use lib.Dec.{T, eqb, eqb→eq}

@@ -1,6 +1,6 @@
 -- A key in ranges of at most two values a part as a code of five bits, part 0 the highest: a bit is 0 where the part is at its lower
 -- end and 1 where it is one above. Definitions only.
-use Prim.Native.Nat.{ℕ, zero, suc, _+_, _-_, _*_, _/_, _%_, _^_, _≤_}
+use Prim.Native.Nat.{ℕ, _+_, _-_, _*_, _/_, _%_, _^_, _≤_}
 use mathlib.Core.Bool.{Bool, cond}
 use mathlib.Core.List.{List, [], _∷_}
 use lib.Dec.{eqb}

@@ -1,5 +1,6 @@
 // The codes around a code, and the list of sums in their order.
 ghost use mathlib.Core.Path.{_≡_};
+ghost use mathlib.Core.List.{[], _∷_};
 ghost use Prim.Native.Nat.{_+_, _-_, _≤_, _<_};
 ghost use lib.ListN.{length, getD};
 ghost use Rattle.key_codes.specs.Codes.{codeOf, chosen, Pairs};
@@ -91,20 +92,20 @@ pub fn code_of(c: [u32; 5], lo: [u32; 5], hi: [u32; 5], bins: u32) -> u64
     p * 16 + q * 8 + s * 4 + t * 2 + u
 }
 
-// The codes that differ from c in one part.
-fn one(c: u64) -> u64
+// The codes that differ from c in one, two, three and four parts of the five: the last two differ from the opposite code in two parts and in one.
+fn around(c: u64) -> [u64; 4]
     requires { ⌜ c < 32 ⌝ }
-    ensures { λ r. ⌜ r ≡ getD ones c 0 ⌝ }
+    ensures { λ r. ⌜ r ≡ getD ones c 0 ∷ getD twos c 0 ∷ getD twos (31 - c) 0 ∷ getD ones (31 - c) 0 ∷ [] ⌝ }
 {
-    ONES[c as usize]
-}
-
-// The codes that differ from c in two parts.
-fn two(c: u64) -> u64
-    requires { ⌜ c < 32 ⌝ }
-    ensures { λ r. ⌜ r ≡ getD twos c 0 ⌝ }
-{
-    TWOS[c as usize]
+    let near = c as usize;
+    let far = 31 - near;
+    let ones = ONES;
+    let twos = TWOS;
+    let p = ones[near];
+    let q = twos[near];
+    let s = twos[far];
+    let t = ones[far];
+    [p, q, s, t]
 }
 
 // Of the count codes of word those that are valid: the sum of each, added to the m of out. One past them is written over.
@@ -139,11 +140,12 @@ pub fn listed(c: u64, valid: u32, sums: &[u64; 32], out: &mut [u64; 1024]) -> us
     requires { ⌜ (c < 32) × (length (now out) ≡ 1024) × (length (now sums) ≡ 32) ⌝ }
     ensures { λ n. ⌜ Put (now (out .entry)) (now (out .exit)) 0 n (chosen (now (sums .entry)) valid (orderOf c)) ⌝ }
 {
+    let w = around(c);
     let far = 31 - c;
     let p = add(c, 1, valid, sums, out, 0);
-    let q = add(one(c), 5, valid, sums, out, p);
-    let s = add(two(c), 10, valid, sums, out, q);
-    let t = add(two(far), 10, valid, sums, out, s);
-    let u = add(one(far), 5, valid, sums, out, t);
+    let q = add(w[0], 5, valid, sums, out, p);
+    let s = add(w[1], 10, valid, sums, out, q);
+    let t = add(w[2], 10, valid, sums, out, s);
+    let u = add(w[3], 5, valid, sums, out, t);
     add(far, 1, valid, sums, out, u)
 }

@@ -1,53 +1,74 @@
 // The ends of the ranges of a key's parts.
 ghost use mathlib.Core.Path.{_≡_};
 ghost use mathlib.Core.Bool.{true};
-ghost use Prim.Native.Nat.{_+_, _≤_};
+ghost use Prim.Native.Nat.{_+_, _-_, _≤_};
 ghost use Rattle.float_order.specs.Ratios.{Ratio, Ratios};
-ghost use Rattle.float_order.specs.KeyPart.{lowOf, highOf};
+ghost use Rattle.float_order.specs.KeyPart.{partOf, lowOf, highOf};
+ghost use Rattle.key_hash.specs.Key.{keyOf};
 ghost use Rattle.pattern_keys.specs.Ranges.{lowerOf, upperOf};
 ghost use Rattle.float_order.specs.KeyPart.{NarrowTolerance};
 ghost use Rattle.key_codes.specs.Codes.{Two};
 
-// The lower end of a part's range.
-fn low(r: f32, e: f32, bins: u32) -> u32
-    requires { ⌜ NarrowTolerance e bins ⌝ }
-    ensures { λ k. ⌜ k ≡ lowOf r e bins ⌝ }
+// The number before k, or 0.
+fn before(k: u32) -> u32
+    ensures { λ r. ⌜ r ≡ k - 1 ⌝ }
 {
-    float::truncate(float_order::larger((r - e) * bins as f32, 0.0))
+    if k == 0 { 0 } else { k - 1 }
 }
 
-// The upper end of a part's range.
-fn high(r: f32, e: f32, bins: u32) -> u32
-    requires { ⌜ NarrowTolerance e bins ⌝ }
-    ensures { λ k. ⌜ k ≡ highOf r e bins ⌝ }
+// The lower end of a part's range: the image's part k or the one before it, unless the range goes further down. Cutting is dear, a comparison is not.
+fn low(r: f32, e: f32, bins: u32, k: u32) -> u32
+    requires { ⌜ Ratio r × NarrowTolerance e bins × (k ≡ partOf r bins) ⌝ }
+    ensures { λ n. ⌜ n ≡ lowOf r e bins ⌝ }
+{
+    let x = (r - e) * bins as f32;
+    let n = before(k + (k as f32 <= x) as u32);
+    if n as f32 <= x {
+        return n;
+    }
+    if n == 0 {
+        return 0;
+    }
+    float::truncate(float_order::larger(x, 0.0))
+}
+
+// The upper end of a part's range: the image's part k or the one after it, unless the range goes further up.
+fn high(r: f32, e: f32, bins: u32, k: u32) -> u32
+    requires { ⌜ Ratio r × NarrowTolerance e bins × (k ≡ partOf r bins) ⌝ }
+    ensures { λ n. ⌜ n ≡ highOf r e bins ⌝ }
 {
     let b = bins as f32;
-    float::truncate(float_order::smaller((r + e) * b, b))
+    let x = float_order::smaller((r + e) * b, b);
+    let n = k + ((k + 1) as f32 <= x) as u32;
+    if (n + 1) as f32 <= x {
+        return float::truncate(x);
+    }
+    n
 }
 
 // The lower ends of the ranges.
-pub fn lower(r: [f32; 5], e: f32, bins: u32) -> [u32; 5]
-    requires { ⌜ NarrowTolerance e bins ⌝ }
+pub fn lower(r: [f32; 5], e: f32, bins: u32, c: [u32; 5]) -> [u32; 5]
+    requires { ⌜ Ratios r × NarrowTolerance e bins × (c ≡ keyOf r bins) ⌝ }
     ensures { λ k. ⌜ k ≡ lowerOf r e bins ⌝ }
 {
-    let p = low(r[0], e, bins);
-    let q = low(r[1], e, bins);
-    let s = low(r[2], e, bins);
-    let t = low(r[3], e, bins);
-    let u = low(r[4], e, bins);
+    let p = low(r[0], e, bins, c[0]);
+    let q = low(r[1], e, bins, c[1]);
+    let s = low(r[2], e, bins, c[2]);
+    let t = low(r[3], e, bins, c[3]);
+    let u = low(r[4], e, bins, c[4]);
     [p, q, s, t, u]
 }
 
 // The upper ends of the ranges.
-pub fn upper(r: [f32; 5], e: f32, bins: u32) -> [u32; 5]
-    requires { ⌜ NarrowTolerance e bins ⌝ }
+pub fn upper(r: [f32; 5], e: f32, bins: u32, c: [u32; 5]) -> [u32; 5]
+    requires { ⌜ Ratios r × NarrowTolerance e bins × (c ≡ keyOf r bins) ⌝ }
     ensures { λ k. ⌜ k ≡ upperOf r e bins ⌝ }
 {
-    let p = high(r[0], e, bins);
-    let q = high(r[1], e, bins);
-    let s = high(r[2], e, bins);
-    let t = high(r[3], e, bins);
-    let u = high(r[4], e, bins);
+    let p = high(r[0], e, bins, c[0]);
+    let q = high(r[1], e, bins, c[1]);
+    let s = high(r[2], e, bins, c[2]);
+    let t = high(r[3], e, bins, c[3]);
+    let u = high(r[4], e, bins, c[4]);
     [p, q, s, t, u]
 }
 

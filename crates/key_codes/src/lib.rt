@@ -5,7 +5,7 @@ mod sums;
 mod valid;
 
 ghost use mathlib.Core.Path.{_≡_};
-ghost use Prim.Native.Nat.{_≤_};
+ghost use Prim.Native.Nat.{_<_};
 ghost use lib.ListN.{length};
 ghost use Rattle.float_order.specs.Ratios.{Ratios};
 ghost use Rattle.key_list.specs.Keys.{keysOf};
@@ -26,6 +26,20 @@ fn two_values(c: [u32; 5], lo: [u32; 5], hi: [u32; 5], bins: u32, out: &mut [u64
     codes::listed(centre, valid, &table, out)
 }
 
+// The hashes of the keys of five ratios where every part has at most two values, in the keys' order: so many, to out, and else none. It needs no room but out.
+fn paired_hashes(r: [f32; 5], e: f32, bins: u32, out: &mut [u64; 1024]) -> usize
+    requires { ⌜ Ratios r × NarrowTolerance e bins × (length (now out) ≡ 1024) ⌝ }
+    ensures { λ n. ⌜ (0 < n → Hashed (now (out .exit)) n (keysFor r e bins) bins) × (length (now (out .exit)) ≡ 1024) ⌝ }
+{
+    let c = key_hash::compute_pattern_key(r, bins);
+    let lo = ends::lower(r, e, bins, c);
+    let hi = ends::upper(r, e, bins, c);
+    if ends::at_most_two(lo, hi) {
+        return two_values(c, lo, hi, bins, out);
+    }
+    0
+}
+
 fn no_keys() -> [[u16; 5]; 1024]
     ensures { λ r. ⌜ length r ≡ 1024 ⌝ }
 {
@@ -38,7 +52,7 @@ fn no_distances() -> [u64; 1024]
     [0u64; 1024]
 }
 
-// The same by the general list, whose arrays are made only here.
+// The same whatever the ranges, by the general list, whose arrays are made only here.
 fn by_list(r: [f32; 5], e: f32, bins: u32, out: &mut [u64; 1024]) -> usize
     requires { ⌜ Ratios r × NarrowTolerance e bins × (length (now out) ≡ 1024) ⌝ }
     ensures { λ n. ⌜ Hashed (now (out .exit)) n (keysFor r e bins) bins ⌝ }
@@ -54,10 +68,9 @@ pub fn key_hashes(r: [f32; 5], e: f32, bins: u32, out: &mut [u64; 1024]) -> usiz
     requires { ⌜ Ratios r × NarrowTolerance e bins × (length (now out) ≡ 1024) ⌝ }
     ensures { λ n. ⌜ Hashed (now (out .exit)) n (keysFor r e bins) bins ⌝ }
 {
-    let lo = ends::lower(r, e, bins);
-    let hi = ends::upper(r, e, bins);
-    if ends::at_most_two(lo, hi) {
-        return two_values(key_hash::compute_pattern_key(r, bins), lo, hi, bins, out);
+    let n = paired_hashes(r, e, bins, out);
+    if 0 < n {
+        return n;
     }
     by_list(r, e, bins, out)
 }

@@ -1,4 +1,5 @@
-use Rattle.key_codes.specs.Valid.{validOf}
+use mathlib.Core.Path.{ap, _∙_}
+use Rattle.key_codes.specs.Valid.{level, validOf}
 use borrow.Author.Needs.{needs}
 use Rattle.key_codes.proofs.valid.codes_in.Statement.{statement}
 use Rattle.key_codes.proofs.valid.codes_in.Tie as tie
@@ -44,7 +45,12 @@ keep-requires-4 c κs = search needs
 
 returns : tie.Need-returns
 unfolding validOf
-returns c = cc
+returns c =
+    let lo = c .before .before .before .before .before .args .t1 in
+    let p = c .before .before .before .keep .ensures ∙ ap (level 0 lo 0xff00ffff) (c .before .before .before .before .in-ranges .ensures) in
+    let q = c .before .before .keep2 .ensures ∙ ap (level 1 lo 0xf0fff0ff) p in
+    let s = c .before .keep3 .ensures ∙ ap (level 2 lo 0xcfcfcfcf) q in
+    c .keep4 .ensures ∙ ap (level 3 lo 0xbbbbbbbb) s
 
 pub codes-in-spec : {M : Type 1} → statement M
 codes-in-spec =

@@ -1,4 +1,5 @@
-use Rattle.key_codes.specs.Valid.{rangedOf}
+use mathlib.Core.Path.{ap, _∙_}
+use Rattle.key_codes.specs.Valid.{single, rangedOf}
 use borrow.Author.Needs.{needs}
 use Rattle.key_codes.proofs.valid.in_ranges.Statement.{statement}
 use Rattle.key_codes.proofs.valid.in_ranges.Tie as tie
@@ -50,7 +51,14 @@ keep-requires-5 c κs = search needs
 
 returns : tie.Need-returns
 unfolding rangedOf
-returns c = cc
+returns c =
+    let lo = c .before .before .before .before .before .args .t1 in
+    let hi = c .before .before .before .before .before .args .t2 in
+    let p = c .before .before .before .before .keep .ensures in
+    let q = c .before .before .before .keep2 .ensures ∙ ap (single 1 lo hi 0x00ff00ff) p in
+    let s = c .before .before .keep3 .ensures ∙ ap (single 2 lo hi 0x0f0f0f0f) q in
+    let t = c .before .keep4 .ensures ∙ ap (single 3 lo hi 0x33333333) s in
+    c .keep5 .ensures ∙ ap (single 4 lo hi 0x55555555) t
 
 pub in-ranges-spec : {M : Type 1} → statement M
 in-ranges-spec =

@@ -1,0 +1,51 @@
+use native.Mathlib.Omega.{arith}
+use Rattle.pattern_keys.specs.Ranges.{keysFor}
+use Rattle.key_codes.proofs.Image.{image-pairs}
+use borrow.Author.Needs.{needs}
+use Rattle.key_codes.proofs.paired_hashes.Statement.{statement}
+use Rattle.key_codes.proofs.paired_hashes.Tie as tie
+
+compute-pattern-key-requires : tie.Need-compute-pattern-key-requires
+compute-pattern-key-requires c κs = search needs
+
+lower-requires : tie.Need-lower-requires
+lower-requires c κs = search needs
+
+upper-requires : tie.Need-upper-requires
+upper-requires c κs = search needs
+
+at-most-two-requires : tie.Need-at-most-two-requires
+at-most-two-requires c κs = search needs
+
+two-values-requires : tie.Need-two-values-requires
+two-values-requires c κs =
+    let s = c .before .before .before .before .before .before in
+    let key = c .before .before .before .before .before .compute-pattern-key .ensures in
+    let lo = c .before .before .before .before .lower .ensures in
+    let hi = c .before .before .before .upper .ensures in
+    let w = c .before .before .at-most-two .ensures (c .before .if1 .taken) in
+    (rw (lo, hi, key) (image-pairs (s .args .r) (s .args .e) (s .args .bins) (s .pre .0) (s .pre .1) (rw (lo, hi) at w)), s .pre .2)
+
+returns : tie.Need-returns
+unfolding keysFor
+returns c =
+    let key = c .before .before .before .before .before .before .compute-pattern-key .ensures in
+    let lo = c .before .before .before .before .before .lower .ensures in
+    let hi = c .before .before .before .before .upper .ensures in
+    let h = c .two-values .ensures in
+    (λ p. rw (key, lo, hi) at h, h .long)
+
+returns-2 : tie.Need-returns-2
+returns-2 c = (λ p. absurd (omega arith), c .before .before .before .before .before .pre .2)
+
+pub paired-hashes-spec : {M : Type 1} → statement M
+paired-hashes-spec =
+    tie.close
+    (tie.spec
+    compute-pattern-key-requires
+    lower-requires
+    upper-requires
+    at-most-two-requires
+    two-values-requires
+    returns
+    returns-2)
