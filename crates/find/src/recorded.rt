@@ -12,6 +12,7 @@ use telling::table_line;
 use telling::tell_call;
 use telling::tell_search;
 use telling::text;
+use undivided_run::State;
 
 // Whether the stream goes on after a record, and the desk after it.
 struct Told {
@@ -26,6 +27,67 @@ fn record_name(n: u64) {
     text(b": ");
 }
 
+// Where a stream can't be read on.
+fn broken_line(n: u64) {
+    text(b"the stream can't be read from record ");
+    number(n);
+    text(b" on\n");
+}
+
+// One call from the desk's state.
+fn call(
+    desk: Desk,
+    table: &[u64],
+    packed: &[u8],
+    stars: &[f32],
+    coords: &[f32],
+    places: &[u32],
+    triples: &[f32],
+    allowance: u64,
+) -> State {
+    let config = desk.config;
+    let slots = desk.table.slots;
+    let state = desk.state;
+    tell_call(
+        config,
+        slots,
+        table,
+        packed,
+        stars,
+        coords,
+        places,
+        triples,
+        state,
+        allowance,
+    )
+}
+
+// A whole search from the desk's state.
+fn run(
+    desk: Desk,
+    table: &[u64],
+    packed: &[u8],
+    stars: &[f32],
+    coords: &[f32],
+    places: &[u32],
+    triples: &[f32],
+) -> State {
+    let config = desk.config;
+    let slots = desk.table.slots;
+    let state = desk.state;
+    tell_search(
+        config,
+        slots,
+        table,
+        packed,
+        stars,
+        coords,
+        places,
+        triples,
+        state,
+    )
+}
+
 // What record number n asks for, told over the lent parts. Slot reads, sweeps and completings are no searches, and are passed over.
 fn tell(
     n: u64,
@@ -38,62 +100,40 @@ fn tell(
     places: &[u32],
     triples: &[f32],
 ) -> Told {
-    let config = desk.config;
-    let state = desk.state;
-    let slots = desk.table.slots;
+    let mut more = true;
+    let mut left = desk.state;
     match request {
         Request::Call(allowance) => {
             record_name(n);
-            let left = tell_call(
-                config,
-                slots,
+            let s = call(
+                desk,
                 table,
                 packed,
                 stars,
                 coords,
                 places,
                 triples,
-                state,
                 allowance,
             );
-            let after = with_state(desk, left);
-            Told {
-                more: true,
-                desk: after,
-            }
+            left = s;
         }
         Request::Run(_) => {
             record_name(n);
-            let left = tell_search(
-                config,
-                slots,
-                table,
-                packed,
-                stars,
-                coords,
-                places,
-                triples,
-                state,
-            );
-            let after = with_state(desk, left);
-            Told {
-                more: true,
-                desk: after,
-            }
+            let s = run(desk, table, packed, stars, coords, places, triples);
+            left = s;
         }
-        Request::Open => {
-            table_line(slots, table, packed, stars);
-            Told { more: true, desk }
-        }
+        Request::Open => table_line(desk.table.slots, table, packed, stars),
         Request::Broken => {
-            text(b"the stream can't be read from record ");
-            number(n);
-            text(b" on\n");
-            Told { more: false, desk }
+            broken_line(n);
+            more = false;
         }
-        Request::End => Told { more: false, desk },
-        _ => Told { more: true, desk },
+        Request::End => {
+            more = false;
+        }
+        _ => {}
     }
+    let after = with_state(desk, left);
+    Told { more, desk: after }
 }
 
 // What record number n asks for, told over as much of the lent slices as the desk says is taken.

@@ -39,32 +39,15 @@ fn answer(
     triples: &[f32],
 ) -> Answered {
     let mut more = true;
+    let mut after = desk;
     match request {
-        Request::Call(allowance) => {
-            let after = one_call(
-                desk,
-                table,
-                packed,
-                stars,
-                coords,
-                places,
-                triples,
-                allowance,
-            );
-            return Answered { more, desk: after };
+        Request::Call(m) => {
+            let d = one_call(desk, table, packed, stars, coords, places, triples, m);
+            after = d;
         }
-        Request::Run(allowance) => {
-            let after = calls(
-                desk,
-                table,
-                packed,
-                stars,
-                coords,
-                places,
-                triples,
-                allowance,
-            );
-            return Answered { more, desk: after };
+        Request::Run(m) => {
+            let d = calls(desk, table, packed, stars, coords, places, triples, m);
+            after = d;
         }
         Request::Open => open_record(desk.table.slots, table, packed, stars),
         Request::Slot(slot) => slot_record(desk.table.slots, table, packed, slot),
@@ -81,7 +64,7 @@ fn answer(
         }
         Request::Nothing => {}
     }
-    Answered { more, desk }
+    Answered { more, desk: after }
 }
 
 // What record number n asks for, answered over as much of the lent slices as the desk says is taken.
