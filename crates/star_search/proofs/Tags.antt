@@ -23,7 +23,7 @@ use Rattle.tolerance.specs.Tolerances.{optionFits, narrowFits, settingsFit}
 use Rattle.pattern_entry.specs.Ask.{ask, every}
 use Rattle.pattern_entry.specs.Entry.{bytesAt}
 use Rattle.pattern_entry.specs.Stars.{starsFit}
-use Rattle.pattern_catalog.specs.Blocks.{tableFits}
+use Rattle.table_blocks.specs.Blocks.{tableFits}
 use Rattle.pattern_catalog.specs.Opening.{opening, indexRight, slotSound}
 use Rattle.pattern_catalog.specs.Answers.{Answer, filledAt, empty, refused}
 use Rattle.fov_sweep.specs.Sweep.{pi, sweepFits}
