@@ -22,14 +22,14 @@ use Rattle.search_feed.specs.Look.{noCandidate}
 use Rattle.search_feed.specs.Desk.{PassDesk, FourDesk}
 use Rattle.search_feed.specs.declared.Held.{Held}
 use Rattle.search_feed.proofs.Limits.{every-four-keyed, within-limits}
-use Rattle.pattern_search.specs.Questions.{firstSeven, firstNo, askedOf}
+use Rattle.search_questions.specs.Questions.{firstSeven, firstNo, askedOf}
 use Rattle.pattern_search.specs.Answers.{lentOf, said, shown, searched}
 use Rattle.pattern_search.specs.Turns.{Ready}
 use Rattle.pattern_search.specs.declared.Searched.{Searched}
-use Rattle.pattern_search.specs.declared.Asked.{Asked}
-use Rattle.pattern_search.specs.declared.Asked.the-variants.{No}
+use Rattle.search_questions.specs.declared.Asked.{Asked}
+use Rattle.search_questions.specs.declared.Asked.the-variants.{No}
 use Rattle.pattern_search.specs.declared.Answer.the-variants.{Refused}
-use Rattle.pattern_search.proofs.Asking.{seven-asked, seven-table}
+use Rattle.search_questions.proofs.Asking.{seven-asked, seven-table}
 
 module _ (D : Data) (st : State) (a : ℕ) where
   abbrev seven : Option ℕ

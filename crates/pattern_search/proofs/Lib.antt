@@ -1,8 +1,3 @@
-pub mod Asking
-pub mod Desks
-pub mod Existing
-pub mod Beginning
-pub mod Stepping
 pub mod Turning
 pub mod Passing
 pub mod Calling

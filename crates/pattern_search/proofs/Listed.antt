@@ -30,10 +30,10 @@ use Rattle.search_feed.specs.Data.{Data}
 use Rattle.search_feed.specs.Feed.{feed}
 use Rattle.search_feed.proofs.Limits.{every-four-keyed, within-limits}
 use Rattle.search_feed.proofs.Sound.{opened-sound}
-use Rattle.pattern_search.specs.Questions.{firstSeven, firstNo}
+use Rattle.search_questions.specs.Questions.{firstSeven, firstNo}
 use Rattle.pattern_search.specs.Answers.{lentOf, said, shown, searched, searchedSays}
 use Rattle.pattern_search.specs.Listed.{Given, lentBy, returned, replies, lastState, answersOf, AllSame, Opens, EveryList, NeverRefused, RefusedAtMostFive, ReturnedSays, ReadsASlot, UsesItsAllowance}
-use Rattle.pattern_search.proofs.Asking.{seven-asked, seven-table}
+use Rattle.search_questions.proofs.Asking.{seven-asked, seven-table}
 
 -- ---- the replies are the calls' answers
 says : (t : Answer Candidate × State) → searchedSays (searched t) ≡ t .0

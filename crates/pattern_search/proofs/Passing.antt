@@ -30,7 +30,7 @@ use Rattle.chains.proofs.Standing.{stand-leads}
 use Rattle.pattern_search.specs.Answers.{searched}
 use Rattle.pattern_search.specs.Turns.{passedOf, Ready, TurnedBy, Turned}
 use Rattle.pattern_search.specs.declared.Turn.{Turn}
-use Rattle.pattern_search.proofs.Desks.{laid-pass, laid-four}
+use Rattle.search_feed.proofs.Laid.{laid-pass, laid-four}
 use Rattle.pattern_search.proofs.Turning.{here-of}
 
 module _ (w : Walk) (p : Position) (s : Stand) (a : ℕ) where

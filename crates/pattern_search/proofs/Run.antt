@@ -24,7 +24,7 @@ use Rattle.search_feed.specs.Image.{keysIn, hashIn, keptPlaces, directionsOf}
 use Rattle.search_feed.specs.Feed.{feed, entryAt, slotAt, testedAt, ifHit, candidateOf, placesOf}
 use Rattle.search_feed.proofs.Limits.{every-four-keyed}
 use Rattle.pattern_search.specs.Claims.{EveryFourTried, Gives, GivesExactly, dataWith, fullList, HigherCapBegins}
-use Rattle.pattern_search.proofs.Asking.{seven-asked}
+use Rattle.search_questions.proofs.Asking.{seven-asked}
 
 pub every-four-tried : EveryFourTried
 every-four-tried D s = run-tries (feed D) (every-four-keyed D (seven-asked _ _ _ _ s)) (D .frame .config .cap)

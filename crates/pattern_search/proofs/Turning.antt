@@ -21,11 +21,10 @@ use Rattle.undivided_run.specs.declared.State.{State}
 use Rattle.undivided_run.specs.declared.Walk.{Walk}
 use Rattle.undivided_run.specs.declared.Status.{Status}
 use Rattle.undivided_run.specs.declared.Cap.{Cap}
-use Rattle.undivided_run.specs.declared.Next.{Next}
 use Rattle.undivided_run.specs.declared.Next.the-variants.{Goes as goes, Ends as ends}
-use Rattle.undivided_run.specs.Undivided.{Feed, cases, isSome, filled, gives, slotOf}
+use Rattle.undivided_run.specs.Undivided.{cases, isSome, filled, gives, slotOf}
 use Rattle.undivided_run.specs.Calls.{candidate}
-use Rattle.undivided_run.specs.Step.{settle, bump, nextRead, soundAt}
+use Rattle.undivided_run.specs.Step.{settle, soundAt}
 use Rattle.undivided_run.specs.Exists.{Here}
 use Rattle.undivided_run.specs.Good.{goesOn}
 use Rattle.undivided_run.proofs.Turns.{good-after, good-room, turn-ends, turn-used, turn-refused, turn-hit, turn-passed}
@@ -40,13 +39,14 @@ use Rattle.search_feed.specs.declared.Sight.{Sight}
 use Rattle.search_feed.specs.declared.Seen.{Seen}
 use Rattle.search_feed.specs.declared.Seen.the-variants.{Empty, Unsound, Passed, Found}
 use Rattle.search_feed.proofs.Limits.{every-four-keyed, fitting, keys-counted}
-use Rattle.pattern_search.specs.Desks.{AtRead}
+use Rattle.search_steps.specs.Steps.{steppedOf}
+use Rattle.search_steps.specs.Desks.{AtRead}
 use Rattle.pattern_search.specs.Answers.{said, shown}
-use Rattle.pattern_search.specs.Turns.{steppedOf, Ready, Turned, rest}
+use Rattle.pattern_search.specs.Turns.{Ready, Turned, rest}
 use Rattle.pattern_search.specs.declared.Searched.{Searched}
 use Rattle.pattern_search.specs.declared.Turn.{Turn}
 use Rattle.pattern_search.specs.declared.Answer.the-variants.{Candidate as SaidCandidate, AllowanceUsed, Ended, Refused}
-use Rattle.pattern_search.proofs.Desks.{kept-64, four-below}
+use Rattle.search_feed.proofs.Laid.{kept-64, four-below}
 
 -- what a look says of a read: filled, sound, and the candidate that it gives
 abbrev pub Means : Seen → Candidate → Bool → Bool → Option Candidate → Type 0
@@ -82,10 +82,6 @@ module _ (D : Data) (r : Position) where
   means x e s h =
       let m : Means (x .seen) (x .candidate) (filled (feed D) r) (soundAt (feed D) (D .frame .config .cap) r) (gives (feed D) r) = subst (λ (y : Sight). Means (y .seen) (y .candidate) (filled (feed D) r) (soundAt (feed D) (D .frame .config .cap) r) (gives (feed D) r)) (sym e) means-of in
       subst (λ (y : Seen). Means y (x .candidate) (filled (feed D) r) (soundAt (feed D) (D .frame .config .cap) r) (gives (feed D) r)) h m
-
--- ---- the walk after a read
-pub stepped : {E C : Type 0} (F : Feed E C) (cap : Cap) (w : Walk) (r : Position) (n : ℕ) → n ≡ bump r (w .patterns) → (x : Next) → x ≡ nextRead F cap r n → record { next = x; patterns = n; reads = w .reads + 1 } ≡ steppedOf F cap w r
-stepped F cap w r n ne x xe = rw (xe, ne)
 
 -- ---- a call between two reads
 module _ (D : Data) (w : Walk) (r : Position) (h : Held) (places : List ℕ) (dirs : List (List Float)) (hashes : List ℕ) (y : Ready D w h places dirs hashes) (e : w .next ≡ goes r) where

@@ -8,7 +8,7 @@ use Rattle.undivided_run.specs.Step.{Lent}
 use Rattle.search_feed.specs.Data.{Data}
 use Rattle.search_feed.specs.Feed.{feed}
 use Rattle.search_feed.specs.Look.{noCandidate}
-use Rattle.pattern_search.specs.Questions.{firstNo}
+use Rattle.search_questions.specs.Questions.{firstNo}
 use Rattle.pattern_search.specs.declared.Searched.{Searched}
 use Rattle.pattern_search.specs.declared.Answer.{Answer as Said}
 use Rattle.pattern_search.specs.declared.Answer.the-variants.{Candidate as SaidCandidate, AllowanceUsed, Ended, Refused}

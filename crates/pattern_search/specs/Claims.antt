@@ -22,7 +22,7 @@ use Rattle.search_feed.specs.Data.{Frame, Data}
 use Rattle.search_feed.specs.Image.{toleranceIn, passOf, imageAt}
 use Rattle.search_feed.specs.Feed.{feed, slotAt, hashOfRead, candidateOf}
 use Rattle.search_feed.specs.declared.SearchConfig.{SearchConfig}
-use Rattle.pattern_search.specs.Questions.{firstSeven}
+use Rattle.search_questions.specs.Questions.{firstSeven}
 
 -- "each pass tries every four of its kept centroids once, by sum of positions in the kept list and then lexicographically, until the cap stops the search":
 -- `every-four-tried`. `allFours` lists no combination where there is no slot or no pattern; `fours-all` and `fours-once` of combinations say "every" and "once".

@@ -1,6 +1,4 @@
-pub mod Questions
 pub mod Answers
-pub mod Desks
 pub mod Turns
 pub mod Listed
 pub mod Claims

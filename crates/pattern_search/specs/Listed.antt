@@ -16,7 +16,7 @@ use Rattle.undivided_run.specs.Step.{Lent, start, final, look, firstRead, searc
 use Rattle.undivided_run.specs.Listing.{feeds, Leaves}
 use Rattle.search_feed.specs.Data.{Data}
 use Rattle.search_feed.specs.Feed.{feed}
-use Rattle.pattern_search.specs.Questions.{firstSeven}
+use Rattle.search_questions.specs.Questions.{firstSeven}
 use Rattle.pattern_search.specs.Answers.{lentOf, searched, searchedSays}
 use Rattle.pattern_search.specs.declared.Searched.{Searched}
 

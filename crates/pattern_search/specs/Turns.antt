@@ -9,10 +9,8 @@ use Rattle.table_blocks.specs.Blocks.{tableFits}
 use Rattle.undivided_run.specs.declared.Position.{Position}
 use Rattle.undivided_run.specs.declared.State.{State}
 use Rattle.undivided_run.specs.declared.Walk.{Walk}
-use Rattle.undivided_run.specs.declared.Cap.{Cap}
 use Rattle.undivided_run.specs.declared.Next.the-variants.{Goes as goes}
-use Rattle.undivided_run.specs.Undivided.{Feed}
-use Rattle.undivided_run.specs.Step.{bump, nextRead}
+use Rattle.undivided_run.specs.Step.{bump}
 use Rattle.undivided_run.specs.Good.{Good, goesOn}
 use Rattle.search_feed.specs.Data.{Data}
 use Rattle.search_feed.specs.Feed.{feed}
@@ -24,10 +22,6 @@ use Rattle.chains.specs.declared.Stand.{Stand}
 use Rattle.pattern_search.specs.Answers.{searched}
 use Rattle.pattern_search.specs.declared.Turn.{Turn}
 use Rattle.pattern_search.specs.declared.Searched.{Searched}
-
--- the walk after a read
-abbrev pub steppedOf : {E C : Type 0} → Feed E C → Cap → Walk → Position → Walk
-steppedOf F cap w r = record { next = nextRead F cap r (bump r (w .patterns)); patterns = bump r (w .patterns); reads = w .reads + 1 }
 
 -- the walk after the reads that the fast way made
 abbrev pub passedOf : Walk → Position → Stand → ℕ → Walk

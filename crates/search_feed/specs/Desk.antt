@@ -2,15 +2,32 @@
 use mathlib.Core.Path.{_≡_}
 use Prim.Native.Nat.{ℕ, _/_, _≤_, _<_}
 use mathlib.Core.Bool.{Bool, true, false}
-use mathlib.Core.List.{List, map}
+use mathlib.Core.List.{List, [], _∷_, map}
+use lib.IntN.{pos}
 use lib.ListN.{length, getD, take}
-use lib.Ieee.{Float}
+use lib.Ieee.{Float, fin}
 use Rattle.combinations.specs.declared.Four.{Four}
 use Rattle.candidates.specs.declared.Image.{Image}
 use Rattle.search_feed.specs.Data.{Frame}
 use Rattle.search_feed.specs.Image.{keysIn, hashIn, spotOf, keptPlaces, imageOf, imageAt}
 use Rattle.search_feed.specs.declared.SearchConfig.{SearchConfig}
 use Rattle.search_feed.specs.declared.Held.{Held}
+
+-- the desk that nothing lies on: all zero
+unfoldable pub noImage : Image
+noImage = let z = fin false 0 (pos 0) in record { edge = z; ratios = z ∷ z ∷ z ∷ z ∷ z ∷ [] }
+
+unfoldable pub emptyDesk : Held
+emptyDesk =
+    record {
+      passed = false;
+      pass = 0;
+      kept = 0;
+      foured = false;
+      four = record { a = 0; b = 0; c = 0; d = 0 };
+      keys = 0;
+      image = noImage;
+    }
 
 -- the arrays hold the kept places of pass i, n of them, and their directions
 pub record PassHeld (F : Frame) (i n : ℕ) (places : List ℕ) (dirs : List (List Float)) : Type 0 where

@@ -12,7 +12,7 @@ ghost use Rattle.key_hash.specs.Key.{homeOf};
 ghost use Rattle.combinations.specs.Fours.{sameFour};
 ghost use Rattle.search_feed.specs.Data.{Frame, frameOf};
 ghost use Rattle.search_feed.specs.Image.{imageOf, fourOf, directionsOf};
-ghost use Rattle.search_feed.specs.Desk.{PassDesk, FourDesk, ForPass, ForFour, Prepared};
+ghost use Rattle.search_feed.specs.Desk.{noImage, emptyDesk, PassDesk, FourDesk, ForPass, ForFour, Prepared};
 ghost use Rattle.search_feed.specs.Look.{placesIn, noCandidate, blank, lookedOf, entryLook, lookIn};
 ghost use Rattle.search_feed.specs.Claims.{settingsOk, Asked5};
 use candidates::Candidate;
@@ -69,14 +69,17 @@ pub struct Readied {
     pub image: Image,
 }
 
-fn no_image() -> Image {
+// What an empty desk shows.
+fn no_image() -> Image
+    ensures { λ r. ⌜ r ≡ noImage ⌝ }
+{
     let ratios = [0.0f32; 5];
     Image { edge: 0.0, ratios }
 }
 
 // An empty desk.
 pub fn nothing_held() -> Held
-    ensures { λ r. ⌜ (r .passed ≡ false) × (r .foured ≡ false) ⌝ }
+    ensures { λ r. ⌜ r ≡ emptyDesk ⌝ }
 {
     let four = Four {
         a: 0,

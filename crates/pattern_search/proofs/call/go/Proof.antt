@@ -3,8 +3,8 @@ use borrow.Author.Tests.{not-true, not-false}
 use borrow.Author.Needs.{needs}
 use Rattle.search_feed.specs.Data.{frameOf, dataOf}
 use Rattle.pattern_entry.proofs.StarSlice.{fit-few}
-use Rattle.pattern_search.proofs.Asking.{seven-asked, seven-stars}
-use Rattle.pattern_search.proofs.Desks.{bare-pass, bare-four}
+use Rattle.search_questions.proofs.Asking.{seven-asked, seven-stars}
+use Rattle.search_feed.proofs.Laid.{empty-pass, empty-four}
 use Rattle.pattern_search.proofs.Calling.{call-eight, call-zero, call-run, ready}
 use Rattle.pattern_search.proofs.call.go.Statement.{statement}
 use Rattle.pattern_search.proofs.call.go.Tie as tie
@@ -25,7 +25,7 @@ eighth-requires : tie.Need-eighth-requires
 eighth-requires c κs =
     let b = c .before .before .before .before .before .before .before .before .before .before .before .before .before in
     let D = dataOf (frameOf (b .args .centroids .now) (b .args .order .now) (b .args .config) (b .args .passes .now)) (b .args .slots) (b .args .words .now) (b .args .packed .now) (b .args .stars .now) in
-    (seven-asked (D .frame) (b .args .slots) (D .words) (D .stars) (b .pre), bare-pass _ _ _ _ (c .before .before .before .nothing-held .ensures .0) (c .before .before .before .before .before .before .no-places .ensures) (c .before .before .before .before .before .no-dirs .ensures), bare-four _ _ _ (c .before .before .before .nothing-held .ensures .1) (c .before .before .before .before .no-hashes .ensures))
+    (seven-asked (D .frame) (b .args .slots) (D .words) (D .stars) (b .pre), empty-pass _ _ _ _ (c .before .before .before .nothing-held .ensures) (c .before .before .before .before .before .before .no-places .ensures) (c .before .before .before .before .before .no-dirs .ensures), empty-four _ _ _ (c .before .before .before .nothing-held .ensures) (c .before .before .before .before .no-hashes .ensures))
 
 plain-requires : tie.Need-plain-requires
 plain-requires c κs = search needs

@@ -1,0 +1,309 @@
+// One turn of a call: the reads that give nothing gone over, then a read and what it makes of the call.
+ghost use mathlib.Core.Path.{_≡_};
+ghost use mathlib.Core.Bool.{true, false};
+ghost use Prim.Native.Nat.{_+_, _-_, _≤_, _<_};
+ghost use Rattle.search_feed.specs.Data.{frameOf, dataOf};
+ghost use Rattle.search_feed.specs.Look.{noCandidate};
+ghost use Rattle.search_feed.specs.Desk.{ForPass, ForFour};
+ghost use Rattle.chains.specs.Glances.{SoundBelow};
+ghost use Rattle.pattern_search.specs.Turns.{passedOf, Ready, Turned};
+use crate::Answer;
+use crate::Searched;
+use crate::Turn;
+use chains::Stand;
+use search_feed::Held;
+use search_feed::SearchConfig;
+use search_feed::Seen;
+use undivided_run::Next;
+use undivided_run::Position;
+use undivided_run::State;
+use undivided_run::Walk;
+
+// A reply without a candidate.
+pub fn plain(answer: Answer, state: State) -> Searched
+    ensures { λ r. ⌜ r ≡ record { answer = answer; candidate = noCandidate; state = state } ⌝ }
+{
+    let candidate = search_feed::no_candidate();
+    Searched {
+        answer,
+        candidate,
+        state,
+    }
+}
+
+// A turn that ends the call.
+fn stop(reply: Searched, walk: Walk, held: Held) -> Turn
+    ensures { λ r. ⌜ r ≡ record { more = false; reply = reply; walk = walk; held = held; left = 0 } ⌝ }
+{
+    Turn {
+        more: false,
+        reply,
+        walk,
+        held,
+        left: 0,
+    }
+}
+
+// A turn that goes on.
+fn go_on(walk: Walk, held: Held, st: State, left: u64) -> Turn
+    ensures { λ r. ⌜ (r .more ≡ true) × (r .walk ≡ walk) × (r .held ≡ held) × (r .left ≡ left) ⌝ }
+{
+    let reply = plain(Answer::AllowanceUsed, st);
+    Turn {
+        more: true,
+        reply,
+        walk,
+        held,
+        left,
+    }
+}
+
+// The walk after the reads of a combination that the fast way made.
+fn passed(walk: Walk, p: Position, s: Stand, allowance: u64) -> Walk
+    requires { ⌜ (s .left ≤ allowance) × (walk .patterns < 9223372036854775808) × (walk .reads + (allowance - s .left) ≤ 9223372036854775808) ⌝ }
+    ensures { λ r. ⌜ r ≡ passedOf walk p s allowance ⌝ }
+{
+    if s.left == allowance {
+        return walk;
+    }
+    let n = p.count(walk.patterns);
+    let to = chains::moved(p, s.key, s.probe);
+    Walk {
+        next: Next::Goes(to),
+        patterns: n,
+        reads: walk.reads + (allowance - s.left),
+    }
+}
+
+// One read, the desk laid for it, and what it makes of the call.
+fn read_turn(
+    centroids: &[f32],
+    order: &[u32],
+    config: SearchConfig,
+    passes: &[f32],
+    slots: u64,
+    words: &[u64],
+    packed: &[u8],
+    stars: &[f32],
+    st: State,
+    allowance: u64,
+    walk: Walk,
+    desk: Held,
+    p: Position,
+    places: &mut [u32; 64],
+    dirs: &mut [[f32; 3]; 64],
+    hashes: &[u64; 1024],
+) -> Turn
+    requires { ⌜ Ready (dataOf (frameOf (now centroids) (now order) config (now passes)) slots (now words) (now packed) (now stars)) walk desk (now places) (now dirs) (now hashes) × (walk .next ≡ Next.Goes p) × ForPass (frameOf (now centroids) (now order) config (now passes)) (p .pass) desk (now places) (now dirs) × ForFour (frameOf (now centroids) (now order) config (now passes)) (p .pass) (p .four) desk (now hashes) × (0 < allowance) ⌝ }
+    ensures { λ r. ⌜ Turned (dataOf (frameOf (now (centroids .entry)) (now (order .entry)) config (now (passes .entry))) slots (now (words .entry)) (now (packed .entry)) (now (stars .entry))) st allowance walk (now (places .exit)) (now (dirs .exit)) (now (hashes .entry)) r ⌝ }
+{
+    let field = passes::pass_at(passes, p.pass).field;
+    let read = search_feed::look(
+        p,
+        desk,
+        &*places,
+        hashes,
+        config,
+        field,
+        slots,
+        words,
+        packed,
+        stars,
+    );
+    let seen = read.seen;
+    match seen {
+        Seen::Unsound => {
+            let reply = plain(Answer::Refused(9), st);
+            stop(reply, walk, desk)
+        }
+        Seen::Found => {
+            let s = search_steps::step(
+                centroids,
+                order,
+                config,
+                passes,
+                slots,
+                desk,
+                p,
+                true,
+                walk,
+                places,
+                dirs,
+            );
+            let on = s.walk;
+            let candidate = read.candidate;
+            let state = on.state();
+            let reply = Searched {
+                answer: Answer::Candidate,
+                candidate,
+                state,
+            };
+            let left = s.held;
+            stop(reply, on, left)
+        }
+        Seen::Passed => {
+            let s = search_steps::step(
+                centroids,
+                order,
+                config,
+                passes,
+                slots,
+                desk,
+                p,
+                true,
+                walk,
+                places,
+                dirs,
+            );
+            let on = s.walk;
+            let left = s.held;
+            go_on(on, left, st, allowance - 1)
+        }
+        Seen::Empty => {
+            let s = search_steps::step(
+                centroids,
+                order,
+                config,
+                passes,
+                slots,
+                desk,
+                p,
+                false,
+                walk,
+                places,
+                dirs,
+            );
+            let on = s.walk;
+            let left = s.held;
+            go_on(on, left, st, allowance - 1)
+        }
+    }
+}
+
+// Over the reads of the combination at hand that give nothing, then the read that they lead to, if the allowance has one left.
+fn read_on(
+    centroids: &[f32],
+    order: &[u32],
+    config: SearchConfig,
+    passes: &[f32],
+    slots: u64,
+    words: &[u64],
+    packed: &[u8],
+    stars: &[f32],
+    sound: u32,
+    st: State,
+    allowance: u64,
+    walk: Walk,
+    held: Held,
+    p: Position,
+    places: &mut [u32; 64],
+    dirs: &mut [[f32; 3]; 64],
+    hashes: &mut [u64; 1024],
+) -> Turn
+    requires { ⌜ Ready (dataOf (frameOf (now centroids) (now order) config (now passes)) slots (now words) (now packed) (now stars)) walk held (now places) (now dirs) (now hashes) × (walk .next ≡ Next.Goes p) × SoundBelow (now stars) sound ⌝ }
+    ensures { λ r. ⌜ Turned (dataOf (frameOf (now (centroids .entry)) (now (order .entry)) config (now (passes .entry))) slots (now (words .entry)) (now (packed .entry)) (now (stars .entry))) st allowance walk (now (places .exit)) (now (dirs .exit)) (now (hashes .exit)) r ⌝ }
+{
+    let desk = search_steps::lay(
+        centroids,
+        order,
+        config,
+        passes,
+        held,
+        p,
+        places,
+        dirs,
+        hashes,
+    );
+    let s = chains::through(
+        p.key,
+        p.probe,
+        desk.keys,
+        &*hashes,
+        slots,
+        words,
+        packed,
+        stars,
+        sound,
+        allowance,
+    );
+    let on = passed(walk, p, s, allowance);
+    if s.left == 0 {
+        let reply = plain(Answer::AllowanceUsed, on.state());
+        return stop(reply, on, desk);
+    }
+    let to = chains::moved(p, s.key, s.probe);
+    read_turn(
+        centroids,
+        order,
+        config,
+        passes,
+        slots,
+        words,
+        packed,
+        stars,
+        st,
+        s.left,
+        on,
+        desk,
+        to,
+        places,
+        dirs,
+        &*hashes,
+    )
+}
+
+// The read at hand, if there is one and the allowance has one left.
+pub fn turn(
+    centroids: &[f32],
+    order: &[u32],
+    config: SearchConfig,
+    passes: &[f32],
+    slots: u64,
+    words: &[u64],
+    packed: &[u8],
+    stars: &[f32],
+    sound: u32,
+    st: State,
+    allowance: u64,
+    walk: Walk,
+    held: Held,
+    places: &mut [u32; 64],
+    dirs: &mut [[f32; 3]; 64],
+    hashes: &mut [u64; 1024],
+) -> Turn
+    requires { ⌜ Ready (dataOf (frameOf (now centroids) (now order) config (now passes)) slots (now words) (now packed) (now stars)) walk held (now places) (now dirs) (now hashes) × SoundBelow (now stars) sound ⌝ }
+    ensures { λ r. ⌜ Turned (dataOf (frameOf (now (centroids .entry)) (now (order .entry)) config (now (passes .entry))) slots (now (words .entry)) (now (packed .entry)) (now (stars .entry))) st allowance walk (now (places .exit)) (now (dirs .exit)) (now (hashes .exit)) r ⌝ }
+{
+    let next = walk.next;
+    match next {
+        Next::Ends(s) => {
+            let reply = plain(Answer::Ended(s), walk.state());
+            stop(reply, walk, held)
+        }
+        Next::Goes(p) => {
+            if allowance == 0 {
+                let reply = plain(Answer::AllowanceUsed, walk.state());
+                return stop(reply, walk, held);
+            }
+            read_on(
+                centroids,
+                order,
+                config,
+                passes,
+                slots,
+                words,
+                packed,
+                stars,
+                sound,
+                st,
+                allowance,
+                walk,
+                held,
+                p,
+                places,
+                dirs,
+                hashes,
+            )
+        }
+    }
+}

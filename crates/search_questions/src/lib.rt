@@ -1,0 +1,211 @@
+// The questions that a call goes through before its first read.
+ghost use mathlib.Core.Path.{_≡_};
+ghost use mathlib.Core.List.{List};
+ghost use Prim.Native.Nat.{ℕ};
+ghost use lib.Ieee.{Float};
+ghost use Rattle.undivided_run.specs.Eight.{risesBelow, withinCounts, existsHere, phaseFits};
+ghost use Rattle.search_feed.specs.Data.{frameOf, dataOf};
+ghost use Rattle.search_feed.specs.Feed.{feed};
+ghost use Rattle.search_feed.specs.Desk.{PassDesk, FourDesk};
+ghost use Rattle.search_feed.specs.Claims.{Asked5, settingsOk};
+ghost use Rattle.search_questions.specs.Questions.{firstSeven, askedOf};
+use combinations::Four;
+use search_feed::Held;
+use search_feed::SearchConfig;
+use undivided_run::Phase;
+use undivided_run::Position;
+use undivided_run::State;
+
+// The number of the first question answered no, if any is.
+pub enum Asked {
+    Clear,
+    No(u32),
+}
+
+// Question 8's answer, with the desk that it was found at.
+pub struct EighthAnswer {
+    pub fits: bool,
+    pub held: Held,
+}
+
+// Questions 1 to 7.
+pub fn first_seven(
+    centroids: &[f32],
+    order: &[u32],
+    config: SearchConfig,
+    passes: &[f32],
+    slots: u64,
+    words: &[u64],
+    stars: &[f32],
+) -> Asked
+    ensures { λ r. ⌜ askedOf r ≡ firstSeven (frameOf (now (centroids .entry)) (now (order .entry)) config (now (passes .entry))) slots (now (words .entry)) (now (stars .entry)) ⌝ }
+{
+    if !preprocess::centroids_fit(centroids) {
+        return Asked::No(1);
+    }
+    if !preprocess::coordinates_fit(centroids) {
+        return Asked::No(2);
+    }
+    if !preprocess::order_fits(order, centroids) {
+        return Asked::No(3);
+    }
+    if !settings_ok(config) {
+        return Asked::No(4);
+    }
+    if !passes::passes_fit(passes) {
+        return Asked::No(5);
+    }
+    if !table_blocks::table_fits(slots, words) {
+        return Asked::No(6);
+    }
+    if !pattern_entry::stars_fit(stars) {
+        return Asked::No(7);
+    }
+    Asked::Clear
+}
+
+// Question 4 of the settings.
+fn settings_ok(config: SearchConfig) -> bool
+    ensures { λ r. ⌜ r ≡ settingsOk config ⌝ }
+{
+    let own = config.matching;
+    let field = config.fov;
+    tolerance::settings_fit(
+        config.bins,
+        config.checking,
+        config.error,
+        config.radius,
+        own,
+        field,
+    )
+}
+
+// Whether four positions rise below n.
+fn rises_below(q: Four, n: u32) -> bool
+    ensures { λ r. ⌜ r ≡ risesBelow n q ⌝ }
+{
+    if q.b <= q.a {
+        return false;
+    }
+    if q.c <= q.b {
+        return false;
+    }
+    if q.d <= q.c {
+        return false;
+    }
+    q.d < n
+}
+
+// Question 8's limits on the counts.
+fn within_counts(patterns: u64, reads: u64) -> bool
+    ensures { λ r. ⌜ r ≡ withinCounts patterns reads ⌝ }
+{
+    if 162656256 < patterns {
+        return false;
+    }
+    reads <= 4611686018427387904
+}
+
+// Whether a position's numbers exist here, with the desk laid for it as far as they do.
+fn exists_here(
+    centroids: &[f32],
+    order: &[u32],
+    config: SearchConfig,
+    passes: &[f32],
+    slots: u64,
+    held: Held,
+    p: Position,
+    places: &mut [u32; 64],
+    dirs: &mut [[f32; 3]; 64],
+    hashes: &mut [u64; 1024],
+) -> EighthAnswer
+    requires { ⌜ Asked5 (frameOf (now centroids) (now order) config (now passes)) × PassDesk (frameOf (now centroids) (now order) config (now passes)) held (now places) (now dirs) × FourDesk (frameOf (now centroids) (now order) config (now passes)) held (now hashes) ⌝ }
+    ensures { λ r. ⌜ ((w e : List ℕ) (s : List Float) → r .fits ≡ existsHere (feed (dataOf (frameOf (now (centroids .entry)) (now (order .entry)) config (now (passes .entry))) slots w e s)) p) ⌝ }
+    ensures { λ r. ⌜ PassDesk (frameOf (now (centroids .entry)) (now (order .entry)) config (now (passes .entry))) (r .held) (now (places .exit)) (now (dirs .exit)) × FourDesk (frameOf (now (centroids .entry)) (now (order .entry)) config (now (passes .entry))) (r .held) (now (hashes .exit)) ⌝ }
+{
+    if config.patterns == 0 {
+        return EighthAnswer { fits: false, held };
+    }
+    if (passes.len() / 3) as u32 <= p.pass {
+        return EighthAnswer { fits: false, held };
+    }
+    let laid = search_feed::lay_pass(centroids, order, config, passes, held, p.pass, places, dirs);
+    let four = p.four;
+    if !rises_below(four, laid.kept) {
+        return EighthAnswer {
+            fits: false,
+            held: laid,
+        };
+    }
+    let desk = search_feed::lay_four(config, laid, four, &*dirs, hashes);
+    if desk.keys <= p.key {
+        return EighthAnswer {
+            fits: false,
+            held: desk,
+        };
+    }
+    EighthAnswer {
+        fits: (p.probe as u64) < slots,
+        held: desk,
+    }
+}
+
+// Question 8.
+pub fn eighth(
+    centroids: &[f32],
+    order: &[u32],
+    config: SearchConfig,
+    passes: &[f32],
+    slots: u64,
+    held: Held,
+    st: State,
+    places: &mut [u32; 64],
+    dirs: &mut [[f32; 3]; 64],
+    hashes: &mut [u64; 1024],
+) -> EighthAnswer
+    requires { ⌜ Asked5 (frameOf (now centroids) (now order) config (now passes)) × PassDesk (frameOf (now centroids) (now order) config (now passes)) held (now places) (now dirs) × FourDesk (frameOf (now centroids) (now order) config (now passes)) held (now hashes) ⌝ }
+    ensures { λ r. ⌜ ((w e : List ℕ) (s : List Float) → r .fits ≡ phaseFits (feed (dataOf (frameOf (now (centroids .entry)) (now (order .entry)) config (now (passes .entry))) slots w e s)) (st .phase) (st .patterns) (st .reads)) ⌝ }
+    ensures { λ r. ⌜ PassDesk (frameOf (now (centroids .entry)) (now (order .entry)) config (now (passes .entry))) (r .held) (now (places .exit)) (now (dirs .exit)) × FourDesk (frameOf (now (centroids .entry)) (now (order .entry)) config (now (passes .entry))) (r .held) (now (hashes .exit)) ⌝ }
+{
+    let phase = st.phase;
+    match phase {
+        Phase::Fresh => {
+            if st.patterns != 0 {
+                return EighthAnswer { fits: false, held };
+            }
+            EighthAnswer {
+                fits: st.reads == 0,
+                held,
+            }
+        }
+        Phase::Ended(_) => EighthAnswer {
+            fits: within_counts(st.patterns, st.reads),
+            held,
+        },
+        Phase::At(p) => {
+            let here = exists_here(
+                centroids,
+                order,
+                config,
+                passes,
+                slots,
+                held,
+                p,
+                places,
+                dirs,
+                hashes,
+            );
+            let desk = here.held;
+            if !here.fits {
+                return EighthAnswer {
+                    fits: false,
+                    held: desk,
+                };
+            }
+            EighthAnswer {
+                fits: within_counts(st.patterns, st.reads),
+                held: desk,
+            }
+        }
+    }
+}

@@ -1,0 +1,44 @@
+use mathlib.Core.Path.{sym, _∙_}
+use Rattle.search_feed.proofs.Laid.{laid-pass, next-pass-fits, next-pass-inside}
+use Rattle.search_steps.proofs.Desks.{kept-same}
+use Rattle.search_steps.proofs.Stepping.{four-follows, four-ends}
+use borrow.Author.Needs.{needs}
+use Rattle.search_steps.proofs.after.after_four.Statement.{statement}
+use Rattle.search_steps.proofs.after.after_four.Tie as tie
+
+next-four-requires : tie.Need-next-four-requires
+next-four-requires c κs = search needs
+
+enum-known-q : tie.Need-enum-known-q
+enum-known-q c = search needs
+
+to-four-requires : tie.Need-to-four-requires
+to-four-requires c κs = search needs
+
+enum-told : tie.Need-enum-told
+enum-told c = search needs
+
+add-to-pass : tie.Need-add-to-pass
+add-to-pass c = next-pass-fits _ _ _ _ _ (c .before .before .before .before .before .before .before .before .pre .0) (c .before .before .before .before .before .before .before .before .pre .1 .laid)
+
+to-pass-requires : tie.Need-to-pass-requires
+to-pass-requires c κs = (c .before .before .before .before .before .before .before .before .before .before .pre .0, laid-pass _ _ _ _ _ (c .before .before .before .before .before .before .before .before .before .before .pre .1 .laid), next-pass-inside _ _ _ _ _ (c .before .before .before .before .before .before .before .before .before .before .pre .1 .laid))
+
+returns : tie.Need-returns
+returns c = (λ w e x. c .to-four .ensures ∙ sym (four-follows _ _ w e x _ _ _ _ _ (c .before .before .before .before .before .before .before .before .before .pre .1 .laid .held .count) _ (c .before .before .before .before .next-four .ensures) _ (c .before .before .q .given .1)), kept-same _ _ _ _ (laid-pass _ _ _ _ _ (c .before .before .before .before .before .before .before .before .before .pre .1 .laid)))
+
+returns-2 : tie.Need-returns-2
+returns-2 c = (λ w e x. c .to-pass .ensures .0 w e x ∙ sym (four-ends _ _ w e x _ _ _ _ _ (c .before .before .before .before .before .before .before .before .before .before .before .pre .1 .laid .held .count) _ (c .before .before .before .before .before .before .next-four .ensures) (c .before .before .before .before .enum-told .given .1)), c .to-pass .ensures .1)
+
+pub after-four-spec : {M : Type 1} → statement M
+after-four-spec =
+    tie.close
+    (tie.spec
+    next-four-requires
+    enum-known-q
+    to-four-requires
+    enum-told
+    add-to-pass
+    to-pass-requires
+    returns
+    returns-2)

@@ -1,0 +1,27 @@
+use mathlib.Core.Path.{sym, ap, _∙_}
+use Rattle.search_feed.proofs.Laid.{laid-pass}
+use Rattle.search_steps.proofs.Desks.{kept-same}
+use Rattle.search_steps.proofs.Stepping.{key-follows, key-ends}
+use Rattle.undivided_run.specs.declared.Next.the-variants.{Goes}
+use borrow.Author.Needs.{needs}
+use Rattle.search_steps.proofs.after.after_key.Statement.{statement}
+use Rattle.search_steps.proofs.after.after_key.Tie as tie
+
+add-if1 : tie.Need-add-if1
+add-if1 c = search needs
+
+next-key-requires : tie.Need-next-key-requires
+next-key-requires c κs = search needs
+
+returns : tie.Need-returns
+returns c = (λ w e x. ap Goes (c .next-key .ensures) ∙ sym (key-follows _ _ w e x _ _ (c .before .before .before .before .before .before .before .args .p) _ (c .before .before .before .before .before .before .before .pre .1 .keys) (c .before .if1 .taken)), kept-same _ _ _ _ (laid-pass _ _ _ _ _ (c .before .before .before .before .before .before .before .pre .1 .laid)))
+
+after-four-requires : tie.Need-after-four-requires
+after-four-requires c κs = search needs
+
+returns-2 : tie.Need-returns-2
+returns-2 c = (λ w e x. c .after-four .ensures .0 w e x ∙ sym (key-ends _ _ w e x _ _ (c .before .before .before .before .before .before .before .before .before .args .p) _ (c .before .before .before .before .before .before .before .before .before .pre .1 .keys) (c .before .before .before .if1 .left)), c .after-four .ensures .1)
+
+pub after-key-spec : {M : Type 1} → statement M
+after-key-spec =
+    tie.close (tie.spec add-if1 next-key-requires returns after-four-requires returns-2)

@@ -1,0 +1,28 @@
+-- What the steps of a call ask of one another about the desk. Definitions only.
+use mathlib.Core.Path.{_≡_}
+use Prim.Native.Nat.{ℕ, _≤_, _<_}
+use mathlib.Core.List.{List}
+use lib.ListN.{length}
+use lib.Ieee.{Float}
+use Rattle.combinations.specs.Fours.{Rising}
+use Rattle.undivided_run.specs.declared.Position.{Position}
+use Rattle.search_feed.specs.Data.{Frame}
+use Rattle.search_feed.specs.Image.{keysIn, imageAt}
+use Rattle.search_feed.specs.Desk.{PassDesk, FourDesk, ForPass}
+use Rattle.search_feed.specs.declared.Held.{Held}
+
+-- a desk after a step: it holds what it says, and whatever array held the combination's hashes does so still
+pub record Kept (F : Frame) (before after : Held) (places : List ℕ) (dirs : List (List Float)) : Type 0 where
+  pub pass : PassDesk F after places dirs
+  pub four : (l : List ℕ) → FourDesk F before l → FourDesk F after l
+
+-- the desk is laid for a read that exists
+pub record AtRead (F : Frame) (slots : ℕ) (h : Held) (p : Position) (places : List ℕ) (dirs : List (List Float)) : Type 0 where
+  pub laid : ForPass F (p .pass) h places dirs
+  pub small : h .kept ≤ 64
+  pub rising : Rising (h .kept) (p .four)
+  pub keys : h .keys ≡ length (keysIn (F .config) (imageAt F (p .pass) (p .four)))
+  pub few : h .keys ≤ 1024
+  pub key : p .key < h .keys
+  pub probe : p .probe < slots
+  pub slots-few : slots ≤ 16777216

@@ -1,0 +1,217 @@
+// The read after a read: probe, key, combination, pass.
+ghost use mathlib.Core.Path.{_≡_};
+ghost use mathlib.Core.List.{List};
+ghost use Prim.Native.Nat.{ℕ, _+_, _-_, _/_, _≤_, _<_};
+ghost use lib.Ieee.{Float};
+ghost use lib.ListN.{length};
+ghost use Rattle.undivided_run.specs.Undivided.{filled};
+ghost use Rattle.undivided_run.specs.Step.{toPass, afterFour, afterKey, nextRead};
+ghost use Rattle.search_feed.specs.Data.{frameOf, dataOf};
+ghost use Rattle.search_feed.specs.Feed.{feed};
+ghost use Rattle.search_feed.specs.Desk.{PassDesk};
+ghost use Rattle.search_feed.specs.Claims.{Asked5};
+ghost use Rattle.search_steps.specs.Steps.{beginOf};
+ghost use Rattle.search_steps.specs.Desks.{Kept, AtRead};
+use crate::Reached;
+use combinations::Four;
+use combinations::MaybeFour;
+use search_feed::Held;
+use search_feed::SearchConfig;
+use undivided_run::Next;
+use undivided_run::Position;
+use undivided_run::Status;
+
+// What a pass begins with: its first combination, or its status where it has no read.
+pub enum Begin {
+    Opens(Four),
+    Over(Status),
+}
+
+fn begin_pass(kept: u32, slots: u64, patterns: u64) -> Begin
+    requires { ⌜ kept ≤ 64 ⌝ }
+    ensures { λ r. ⌜ r ≡ beginOf kept slots patterns ⌝ }
+{
+    if kept < 4 {
+        return Begin::Over(Status::TooFew);
+    }
+    if slots == 0 {
+        return Begin::Over(Status::NoMatch);
+    }
+    if patterns == 0 {
+        return Begin::Over(Status::NoMatch);
+    }
+    match combinations::first_four(kept) {
+        MaybeFour::Next(q) => Begin::Opens(q),
+        MaybeFour::Nothing => Begin::Over(Status::NoMatch),
+    }
+}
+
+// The first read of the passes from `from` on; `status` is that of the pass before.
+pub fn to_pass(
+    centroids: &[f32],
+    order: &[u32],
+    config: SearchConfig,
+    passes: &[f32],
+    slots: u64,
+    held: Held,
+    from: u32,
+    status: Status,
+    tried: u64,
+    places: &mut [u32; 64],
+    dirs: &mut [[f32; 3]; 64],
+) -> Reached
+    requires { ⌜ Asked5 (frameOf (now centroids) (now order) config (now passes)) × PassDesk (frameOf (now centroids) (now order) config (now passes)) held (now places) (now dirs) × (from ≤ length (now passes) / 3) ⌝ }
+    ensures { λ r. ⌜ ((w p : List ℕ) (s : List Float) → r .next ≡ toPass (feed (dataOf (frameOf (now (centroids .entry)) (now (order .entry)) config (now (passes .entry))) slots w p s)) (config .cap) (length (now (passes .entry)) / 3 - from) from status tried) ⌝ }
+    ensures { λ r. ⌜ Kept (frameOf (now (centroids .entry)) (now (order .entry)) config (now (passes .entry))) held (r .held) (now (places .exit)) (now (dirs .exit)) ⌝ }
+{
+    let n = (passes.len() / 3) as u32;
+    let cap = config.cap;
+    let mut desk = held;
+    let mut i = from;
+    let mut s = status;
+    while i < n {
+        if cap.reached(tried) {
+            return Reached {
+                next: Next::Ends(Status::Timeout),
+                held: desk,
+            };
+        }
+        let laid = search_feed::lay_pass(centroids, order, config, passes, desk, i, places, dirs);
+        desk = laid;
+        match begin_pass(laid.kept, slots, config.patterns) {
+            Begin::Opens(q) => {
+                return Reached {
+                    next: Next::Goes(Position::first_of(i, q)),
+                    held: laid,
+                };
+            }
+            Begin::Over(t) => {
+                s = t;
+                i += 1;
+            }
+        }
+    }
+    Reached {
+        next: Next::Ends(s),
+        held: desk,
+    }
+}
+
+// The read after the last of a combination: the next combination of the pass, or the passes after.
+fn after_four(
+    centroids: &[f32],
+    order: &[u32],
+    config: SearchConfig,
+    passes: &[f32],
+    slots: u64,
+    held: Held,
+    p: Position,
+    tried: u64,
+    places: &mut [u32; 64],
+    dirs: &mut [[f32; 3]; 64],
+) -> Reached
+    requires { ⌜ Asked5 (frameOf (now centroids) (now order) config (now passes)) × AtRead (frameOf (now centroids) (now order) config (now passes)) slots held p (now places) (now dirs) ⌝ }
+    ensures { λ r. ⌜ ((w e : List ℕ) (s : List Float) → r .next ≡ afterFour (feed (dataOf (frameOf (now (centroids .entry)) (now (order .entry)) config (now (passes .entry))) slots w e s)) (config .cap) (p .pass) (p .four) tried) ⌝ }
+    ensures { λ r. ⌜ Kept (frameOf (now (centroids .entry)) (now (order .entry)) config (now (passes .entry))) held (r .held) (now (places .exit)) (now (dirs .exit)) ⌝ }
+{
+    let four = p.four;
+    match combinations::next_four(held.kept, four) {
+        MaybeFour::Next(q) => {
+            let cap = config.cap;
+            Reached {
+                next: cap.to_four(tried, p.pass, q),
+                held,
+            }
+        }
+        MaybeFour::Nothing => to_pass(
+            centroids,
+            order,
+            config,
+            passes,
+            slots,
+            held,
+            p.pass + 1,
+            Status::NoMatch,
+            tried,
+            places,
+            dirs,
+        ),
+    }
+}
+
+// The read after the last of a key: the next key of the combination, or what comes after the combination.
+fn after_key(
+    centroids: &[f32],
+    order: &[u32],
+    config: SearchConfig,
+    passes: &[f32],
+    slots: u64,
+    held: Held,
+    p: Position,
+    tried: u64,
+    places: &mut [u32; 64],
+    dirs: &mut [[f32; 3]; 64],
+) -> Reached
+    requires { ⌜ Asked5 (frameOf (now centroids) (now order) config (now passes)) × AtRead (frameOf (now centroids) (now order) config (now passes)) slots held p (now places) (now dirs) ⌝ }
+    ensures { λ r. ⌜ ((w e : List ℕ) (s : List Float) → r .next ≡ afterKey (feed (dataOf (frameOf (now (centroids .entry)) (now (order .entry)) config (now (passes .entry))) slots w e s)) (config .cap) (p .pass) (p .four) (p .key) tried) ⌝ }
+    ensures { λ r. ⌜ Kept (frameOf (now (centroids .entry)) (now (order .entry)) config (now (passes .entry))) held (r .held) (now (places .exit)) (now (dirs .exit)) ⌝ }
+{
+    if p.key + 1 < held.keys {
+        return Reached {
+            next: Next::Goes(p.next_key()),
+            held,
+        };
+    }
+    after_four(
+        centroids,
+        order,
+        config,
+        passes,
+        slots,
+        held,
+        p,
+        tried,
+        places,
+        dirs,
+    )
+}
+
+// The read after this one, whose slot is filled or not, with the combinations tried by then.
+pub fn after(
+    centroids: &[f32],
+    order: &[u32],
+    config: SearchConfig,
+    passes: &[f32],
+    slots: u64,
+    held: Held,
+    p: Position,
+    full: bool,
+    tried: u64,
+    places: &mut [u32; 64],
+    dirs: &mut [[f32; 3]; 64],
+) -> Reached
+    requires { ⌜ Asked5 (frameOf (now centroids) (now order) config (now passes)) × AtRead (frameOf (now centroids) (now order) config (now passes)) slots held p (now places) (now dirs) ⌝ }
+    ensures { λ r. ⌜ ((w e : List ℕ) (s : List Float) → full ≡ filled (feed (dataOf (frameOf (now (centroids .entry)) (now (order .entry)) config (now (passes .entry))) slots w e s)) p → r .next ≡ nextRead (feed (dataOf (frameOf (now (centroids .entry)) (now (order .entry)) config (now (passes .entry))) slots w e s)) (config .cap) p tried) ⌝ }
+    ensures { λ r. ⌜ Kept (frameOf (now (centroids .entry)) (now (order .entry)) config (now (passes .entry))) held (r .held) (now (places .exit)) (now (dirs .exit)) ⌝ }
+{
+    if full {
+        if ((p.probe + 1) as u64) < slots {
+            return Reached {
+                next: Next::Goes(p.next_probe()),
+                held,
+            };
+        }
+    }
+    after_key(
+        centroids,
+        order,
+        config,
+        passes,
+        slots,
+        held,
+        p,
+        tried,
+        places,
+        dirs,
+    )
+}
