@@ -42,7 +42,7 @@ use Rattle.search_feed.proofs.Limits.{every-four-keyed, fitting, keys-counted}
 use Rattle.search_steps.specs.Steps.{steppedOf}
 use Rattle.search_steps.specs.Desks.{AtRead}
 use Rattle.pattern_search.specs.Answers.{said, shown}
-use Rattle.pattern_search.specs.Turns.{Ready, Turned, rest}
+use Rattle.pattern_search.specs.Turns.{stopping, goingOn, refusesOf, sawEntry, toldOf, Ready, Turned, rest}
 use Rattle.pattern_search.specs.declared.Searched.{Searched}
 use Rattle.pattern_search.specs.declared.Turn.{Turn}
 use Rattle.pattern_search.specs.declared.Answer.the-variants.{Candidate as SaidCandidate, AllowanceUsed, Ended, Refused}
@@ -54,6 +54,19 @@ Means Empty x f s g = (f ≡ false) × (s ≡ true) × (g ≡ none)
 Means Unsound x f s g = s ≡ false
 Means Passed x f s g = (f ≡ true) × (s ≡ true) × (g ≡ none)
 Means Found x f s g = (f ≡ true) × (s ≡ true) × (g ≡ some x)
+
+-- what a read that question 9 refuses, or does not, says by that
+refused-means : (s : Seen) (x : Candidate) (f b : Bool) (g : Option Candidate) → refusesOf s ≡ true → Means s x f b g → b ≡ false
+refused-means Empty x f b g r m = absurd (let z : _≡_ {A = ℕ} 0 1 = cc in omega arith)
+refused-means Unsound x f b g r m = m
+refused-means Passed x f b g r m = absurd (let z : _≡_ {A = ℕ} 0 1 = cc in omega arith)
+refused-means Found x f b g r m = absurd (let z : _≡_ {A = ℕ} 0 1 = cc in omega arith)
+
+filled-means : (s : Seen) (x : Candidate) (f b : Bool) (g : Option Candidate) → refusesOf s ≡ false → Means s x f b g → sawEntry s ≡ f
+filled-means Empty x f b g r m = sym (m .0)
+filled-means Unsound x f b g r m = absurd (let z : _≡_ {A = ℕ} 0 1 = cc in omega arith)
+filled-means Passed x f b g r m = sym (m .0)
+filled-means Found x f b g r m = sym (m .0)
 
 module _ (D : Data) (r : Position) where
   means-of : Means (lookAt D r .seen) (lookAt D r .candidate) (filled (feed D) r) (soundAt (feed D) (D .frame .config .cap) r) (gives (feed D) r)
@@ -78,10 +91,15 @@ module _ (D : Data) (r : Position) where
       by false = (refl, refl, refl)
       by true = two (entrySound (D .stars) e) (testedAt D r e)
 
-  pub means : (x : Sight) → x ≡ lookAt D r → (s : Seen) → x .seen ≡ s → Means s (x .candidate) (filled (feed D) r) (soundAt (feed D) (D .frame .config .cap) r) (gives (feed D) r)
-  means x e s h =
-      let m : Means (x .seen) (x .candidate) (filled (feed D) r) (soundAt (feed D) (D .frame .config .cap) r) (gives (feed D) r) = subst (λ (y : Sight). Means (y .seen) (y .candidate) (filled (feed D) r) (soundAt (feed D) (D .frame .config .cap) r) (gives (feed D) r)) (sym e) means-of in
-      subst (λ (y : Seen). Means y (x .candidate) (filled (feed D) r) (soundAt (feed D) (D .frame .config .cap) r) (gives (feed D) r)) h m
+  pub means : (x : Sight) → x ≡ lookAt D r → Means (x .seen) (x .candidate) (filled (feed D) r) (soundAt (feed D) (D .frame .config .cap) r) (gives (feed D) r)
+  means x e = subst (λ (y : Sight). Means (y .seen) (y .candidate) (filled (feed D) r) (soundAt (feed D) (D .frame .config .cap) r) (gives (feed D) r)) (sym e) means-of
+
+  module _ (x : Sight) (m : Means (x .seen) (x .candidate) (filled (feed D) r) (soundAt (feed D) (D .frame .config .cap) r) (gives (feed D) r)) where
+    pub refused-unsound : refusesOf (x .seen) ≡ true → soundAt (feed D) (D .frame .config .cap) r ≡ false
+    refused-unsound n = refused-means (x .seen) (x .candidate) (filled (feed D) r) (soundAt (feed D) (D .frame .config .cap) r) (gives (feed D) r) n m
+
+    pub entry-filled : refusesOf (x .seen) ≡ false → sawEntry (x .seen) ≡ filled (feed D) r
+    entry-filled n = filled-means (x .seen) (x .candidate) (filled (feed D) r) (soundAt (feed D) (D .frame .config .cap) r) (gives (feed D) r) n m
 
 -- ---- a call between two reads
 module _ (D : Data) (w : Walk) (r : Position) (h : Held) (places : List ℕ) (dirs : List (List Float)) (hashes : List ℕ) (y : Ready D w h places dirs hashes) (e : w .next ≡ goes r) where
@@ -179,11 +197,21 @@ module _ (D : Data) (st : State) (a : ℕ) (w : Walk) where
     reply-hit f s g v ve z ze = rw (turn-hit (feed D) cap st a w r e p f s g, ze, ve)
 
     -- a turn that goes on
-    pub turn-more : soundAt (feed D) cap r ≡ true → gives (feed D) r ≡ none → (v : Walk) → v ≡ steppedOf (feed D) cap w r → (g : Held) (places : List ℕ) (dirs : List (List Float)) (hashes : List ℕ) → Ready D v g places dirs hashes → (u : Turn) → u .more ≡ true → u .walk ≡ v → u .held ≡ g → u .left ≡ a - 1 → Turned D st a w places dirs hashes u
-    turn-more s n v ve g places dirs hashes y u m uw uh ul =
-        rw m (omega (arith, ul), ap (λ n. goesOn (feed D) cap st n (u .walk)) ul ∙ ap (goesOn (feed D) cap st (a - 1)) (uw ∙ ve) ∙ turn-passed (feed D) cap st a w r e p s n, rw (uw, uh) y)
+    turn-more : soundAt (feed D) cap r ≡ true → gives (feed D) r ≡ none → (v : Walk) → v ≡ steppedOf (feed D) cap w r → (h : Held) (places : List ℕ) (dirs : List (List Float)) (hashes : List ℕ) → Ready D v h places dirs hashes → Turned D st a w places dirs hashes (goingOn v h st (a - 1))
+    turn-more s n v ve h places dirs hashes y = (omega (arith, p), ap (goesOn (feed D) cap st (a - 1)) ve ∙ turn-passed (feed D) cap st a w r e p s n, y)
 
-  pub turn-stop : (x : Searched) → x ≡ rest D st a w → (v : Walk) (h : Held) (places : List ℕ) (dirs : List (List Float)) (hashes : List ℕ) (u : Turn) → u ≡ record { more = false; reply = x; walk = v; held = h; left = 0 } → Turned D st a w places dirs hashes u
+    -- what a sound read makes of the call
+    module _ (v : Walk) (ve : v ≡ steppedOf (feed D) cap w r) (h : Held) (places : List ℕ) (dirs : List (List Float)) (hashes : List ℕ) (y : Ready D v h places dirs hashes) where
+      told-by : (s : Seen) (x : Candidate) → refusesOf s ≡ false → Means s x (filled (feed D) r) (soundAt (feed D) cap r) (gives (feed D) r) → Turned D st a w places dirs hashes (toldOf s x v h st (a - 1))
+      told-by Empty x n m = turn-more (m .1) (m .2) v ve h places dirs hashes y
+      told-by Unsound x n m = absurd (let z : _≡_ {A = ℕ} 0 1 = cc in omega arith)
+      told-by Passed x n m = turn-more (m .1) (m .2) v ve h places dirs hashes y
+      told-by Found x n m = reply-hit x (m .1) (m .2) v ve _ refl
+
+      pub turn-told : (x : Sight) → refusesOf (x .seen) ≡ false → Means (x .seen) (x .candidate) (filled (feed D) r) (soundAt (feed D) cap r) (gives (feed D) r) → (u : Turn) → u ≡ toldOf (x .seen) (x .candidate) v h st (a - 1) → Turned D st a w places dirs hashes u
+      turn-told x n m u ue = subst (Turned D st a w places dirs hashes) (sym ue) (told-by (x .seen) (x .candidate) n m)
+
+  pub turn-stop : (x : Searched) → x ≡ rest D st a w → (v : Walk) (h : Held) (places : List ℕ) (dirs : List (List Float)) (hashes : List ℕ) (u : Turn) → u ≡ stopping x v h → Turned D st a w places dirs hashes u
   turn-stop x e v h places dirs hashes u ue = rw ue e
 
 -- after a read the call is ready for the next

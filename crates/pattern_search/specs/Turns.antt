@@ -6,22 +6,54 @@ use lib.Dec.{eqb}
 use mathlib.Core.List.{List}
 use lib.Ieee.{Float}
 use Rattle.table_blocks.specs.Blocks.{tableFits}
+use Rattle.candidates.specs.declared.Candidate.{Candidate}
 use Rattle.undivided_run.specs.declared.Position.{Position}
 use Rattle.undivided_run.specs.declared.State.{State}
 use Rattle.undivided_run.specs.declared.Walk.{Walk}
 use Rattle.undivided_run.specs.declared.Next.the-variants.{Goes as goes}
-use Rattle.undivided_run.specs.Step.{bump}
+use Rattle.undivided_run.specs.Step.{settle, bump}
 use Rattle.undivided_run.specs.Good.{Good, goesOn}
 use Rattle.search_feed.specs.Data.{Data}
 use Rattle.search_feed.specs.Feed.{feed}
 use Rattle.search_feed.specs.Desk.{PassDesk, FourDesk}
 use Rattle.search_feed.specs.Claims.{Asked5}
+use Rattle.search_feed.specs.Look.{noCandidate}
 use Rattle.search_feed.specs.declared.Held.{Held}
+use Rattle.search_feed.specs.declared.Seen.{Seen}
+use Rattle.search_feed.specs.declared.Seen.the-variants.{Empty, Unsound, Passed, Found}
 use Rattle.chains.specs.Quiet.{keyAt}
 use Rattle.chains.specs.declared.Stand.{Stand}
 use Rattle.pattern_search.specs.Answers.{searched}
 use Rattle.pattern_search.specs.declared.Turn.{Turn}
 use Rattle.pattern_search.specs.declared.Searched.{Searched}
+use Rattle.pattern_search.specs.declared.Answer.the-variants.{Candidate as SaidCandidate, AllowanceUsed}
+
+-- a turn that ends the call, and one that goes on
+abbrev pub stopping : Searched → Walk → Held → Turn
+stopping x w h = record { more = false; reply = x; walk = w; held = h; left = 0 }
+
+abbrev pub goingOn : Walk → Held → State → ℕ → Turn
+goingOn w h st left = record { more = true; reply = record { answer = AllowanceUsed; candidate = noCandidate; state = st }; walk = w; held = h; left = left }
+
+-- what a read saw: whether question 9 refuses it, and whether its slot is filled
+abbrev pub refusesOf : Seen → Bool
+refusesOf Empty = false
+refusesOf Unsound = true
+refusesOf Passed = false
+refusesOf Found = false
+
+abbrev pub sawEntry : Seen → Bool
+sawEntry Empty = false
+sawEntry Unsound = true
+sawEntry Passed = true
+sawEntry Found = true
+
+-- the turn that it makes, w being the walk after it
+abbrev pub toldOf : Seen → Candidate → Walk → Held → State → ℕ → Turn
+toldOf Found x w h st left = stopping (record { answer = SaidCandidate; candidate = x; state = record { phase = settle (w .next); patterns = w .patterns; reads = w .reads } }) w h
+toldOf Empty x w h st left = goingOn w h st left
+toldOf Unsound x w h st left = goingOn w h st left
+toldOf Passed x w h st left = goingOn w h st left
 
 -- the walk after the reads that the fast way made
 abbrev pub passedOf : Walk → Position → Stand → ℕ → Walk

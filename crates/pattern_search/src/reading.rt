@@ -1,12 +1,11 @@
 // One turn of a call: the reads that give nothing gone over, then a read and what it makes of the call.
 ghost use mathlib.Core.Path.{_≡_};
-ghost use mathlib.Core.Bool.{true, false};
 ghost use Prim.Native.Nat.{_+_, _-_, _≤_, _<_};
 ghost use Rattle.search_feed.specs.Data.{frameOf, dataOf};
 ghost use Rattle.search_feed.specs.Look.{noCandidate};
 ghost use Rattle.search_feed.specs.Desk.{ForPass, ForFour};
 ghost use Rattle.chains.specs.Glances.{SoundBelow};
-ghost use Rattle.pattern_search.specs.Turns.{passedOf, Ready, Turned};
+ghost use Rattle.pattern_search.specs.Turns.{stopping, goingOn, refusesOf, sawEntry, toldOf, passedOf, Ready, Turned};
 use crate::Answer;
 use crate::Searched;
 use crate::Turn;
@@ -14,6 +13,7 @@ use chains::Stand;
 use search_feed::Held;
 use search_feed::SearchConfig;
 use search_feed::Seen;
+use search_feed::Sight;
 use undivided_run::Next;
 use undivided_run::Position;
 use undivided_run::State;
@@ -33,7 +33,7 @@ pub fn plain(answer: Answer, state: State) -> Searched
 
 // A turn that ends the call.
 fn stop(reply: Searched, walk: Walk, held: Held) -> Turn
-    ensures { λ r. ⌜ r ≡ record { more = false; reply = reply; walk = walk; held = held; left = 0 } ⌝ }
+    ensures { λ r. ⌜ r ≡ stopping reply walk held ⌝ }
 {
     Turn {
         more: false,
@@ -46,7 +46,7 @@ fn stop(reply: Searched, walk: Walk, held: Held) -> Turn
 
 // A turn that goes on.
 fn go_on(walk: Walk, held: Held, st: State, left: u64) -> Turn
-    ensures { λ r. ⌜ (r .more ≡ true) × (r .walk ≡ walk) × (r .held ≡ held) × (r .left ≡ left) ⌝ }
+    ensures { λ r. ⌜ r ≡ goingOn walk held st left ⌝ }
 {
     let reply = plain(Answer::AllowanceUsed, st);
     Turn {
@@ -55,6 +55,52 @@ fn go_on(walk: Walk, held: Held, st: State, left: u64) -> Turn
         walk,
         held,
         left,
+    }
+}
+
+// Whether question 9 is answered no by what a read saw.
+fn refuses(seen: Seen) -> bool
+    ensures { λ r. ⌜ r ≡ refusesOf seen ⌝ }
+{
+    match seen {
+        Seen::Unsound => true,
+        Seen::Empty => false,
+        Seen::Passed => false,
+        Seen::Found => false,
+    }
+}
+
+// Whether the slot that a read saw is filled.
+fn saw_entry(seen: Seen) -> bool
+    ensures { λ r. ⌜ r ≡ sawEntry seen ⌝ }
+{
+    match seen {
+        Seen::Empty => false,
+        Seen::Unsound => true,
+        Seen::Passed => true,
+        Seen::Found => true,
+    }
+}
+
+// What a sound read makes of the call, with the walk after it: the candidate that it gave, or on to the next read.
+fn told(read: Sight, on: Walk, held: Held, st: State, left: u64) -> Turn
+    ensures { λ r. ⌜ r ≡ toldOf (read .seen) (read .candidate) on held st left ⌝ }
+{
+    let seen = read.seen;
+    match seen {
+        Seen::Found => {
+            let candidate = read.candidate;
+            let state = on.state();
+            let reply = Searched {
+                answer: Answer::Candidate,
+                candidate,
+                state,
+            };
+            stop(reply, on, held)
+        }
+        Seen::Passed => go_on(on, held, st, left),
+        Seen::Empty => go_on(on, held, st, left),
+        Seen::Unsound => go_on(on, held, st, left),
     }
 }
 
@@ -111,73 +157,26 @@ fn read_turn(
         stars,
     );
     let seen = read.seen;
-    match seen {
-        Seen::Unsound => {
-            let reply = plain(Answer::Refused(9), st);
-            stop(reply, walk, desk)
-        }
-        Seen::Found => {
-            let s = search_steps::step(
-                centroids,
-                order,
-                config,
-                passes,
-                slots,
-                desk,
-                p,
-                true,
-                walk,
-                places,
-                dirs,
-            );
-            let on = s.walk;
-            let candidate = read.candidate;
-            let state = on.state();
-            let reply = Searched {
-                answer: Answer::Candidate,
-                candidate,
-                state,
-            };
-            let left = s.held;
-            stop(reply, on, left)
-        }
-        Seen::Passed => {
-            let s = search_steps::step(
-                centroids,
-                order,
-                config,
-                passes,
-                slots,
-                desk,
-                p,
-                true,
-                walk,
-                places,
-                dirs,
-            );
-            let on = s.walk;
-            let left = s.held;
-            go_on(on, left, st, allowance - 1)
-        }
-        Seen::Empty => {
-            let s = search_steps::step(
-                centroids,
-                order,
-                config,
-                passes,
-                slots,
-                desk,
-                p,
-                false,
-                walk,
-                places,
-                dirs,
-            );
-            let on = s.walk;
-            let left = s.held;
-            go_on(on, left, st, allowance - 1)
-        }
+    if refuses(seen) {
+        let reply = plain(Answer::Refused(9), st);
+        return stop(reply, walk, desk);
     }
+    let s = search_steps::step(
+        centroids,
+        order,
+        config,
+        passes,
+        slots,
+        desk,
+        p,
+        saw_entry(seen),
+        walk,
+        places,
+        dirs,
+    );
+    let on = s.walk;
+    let left = s.held;
+    told(read, on, left, st, allowance - 1)
 }
 
 // Over the reads of the combination at hand that give nothing, then the read that they lead to, if the allowance has one left.
