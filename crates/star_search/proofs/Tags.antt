@@ -17,7 +17,7 @@ use Rattle.undivided_run.specs.declared.Status.{Status}
 use Rattle.undivided_run.specs.declared.Status.the-variants.{TooFew, NoMatch, Timeout}
 use Rattle.undivided_run.specs.Eight.{phaseFits}
 use Rattle.undivided_run.specs.Step.{start}
-use Rattle.float_order.specs.Value.{zero32, one32}
+use Rattle.float_order.specs.Value.{zero32, one32, pi32}
 use Rattle.tolerance.specs.declared.Tolerance.{Tolerance}
 use Rattle.tolerance.specs.Tolerances.{optionFits, narrowFits, settingsFit}
 use Rattle.pattern_entry.specs.Ask.{ask, every}
@@ -26,7 +26,7 @@ use Rattle.pattern_entry.specs.Stars.{starsFit}
 use Rattle.table_blocks.specs.Blocks.{tableFits}
 use Rattle.pattern_catalog.specs.Opening.{opening, indexRight, slotSound}
 use Rattle.pattern_catalog.specs.Answers.{Answer, filledAt, empty, refused}
-use Rattle.fov_sweep.specs.Sweep.{pi, sweepFits}
+use Rattle.fov_sweep.specs.Sweep.{sweepFits}
 use Rattle.star_numbers.specs.Received.{optionOf, binsOf, configOf, positionOf, unknown, endedOf, stateOf}
 use Rattle.star_numbers.specs.Handed.{openedNumber, phaseNumbers}
 use Rattle.star_search.specs.Claims.{ZeroPasses, StateBack, ZeroIsFresh, UnknownSettings, UnknownError, UnknownState, PartAsNumbers}
@@ -101,7 +101,7 @@ unknown-settings s (inr h) = rw (unknown-bins (s .«cap_given») (s .bins) h) (n
 -- ---- questions 12 and 8
 pub unknown-error : UnknownError
 unfolding sweepFits
-unknown-error estimate error step tag h = rw (unknown-option tag error h) (false-right ((lt zero32 estimate && lt estimate pi) && (finite step && lt zero32 step)))
+unknown-error estimate error step tag h = rw (unknown-option tag error h) (false-right ((lt zero32 estimate && lt estimate pi32) && (finite step && lt zero32 step)))
 
 pub unknown-state : UnknownState
 unfolding stateOf endedOf unknown phaseFits
