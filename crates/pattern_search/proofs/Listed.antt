@@ -19,7 +19,7 @@ use Rattle.undivided_run.specs.declared.Status.{Status}
 use Rattle.undivided_run.specs.declared.Next.the-variants.{Ends}
 use Rattle.undivided_run.proofs.Progress.{progress-any, used-exactly}
 use Rattle.undivided_run.specs.Undivided.{cases}
-use Rattle.undivided_run.specs.Calls.{Answer, candidate, used, over, refused, calls, found}
+use Rattle.undivided_run.specs.Calls.{over, calls, found}
 use Rattle.undivided_run.specs.Step.{Lent, start, look, firstRead, searchCall, refusalOf, nineOf}
 use Rattle.undivided_run.specs.Listing.{FairList}
 use Rattle.undivided_run.specs.Exists.{Keyed}
@@ -31,7 +31,7 @@ use Rattle.search_feed.specs.Feed.{feed}
 use Rattle.search_feed.proofs.Limits.{every-four-keyed, within-limits}
 use Rattle.search_feed.proofs.Sound.{opened-sound}
 use Rattle.search_questions.specs.Questions.{firstSeven, firstNo}
-use Rattle.pattern_search.specs.Answers.{lentOf, searched, searchedSays}
+use Rattle.pattern_search.specs.Answers.{lentOf, searchedSays}
 use Rattle.pattern_search.specs.Listed.{Given, lentBy, returned, replies, lastState, answersOf, AllSame, Opens, EveryList, NeverRefused, RefusedAtMostFive, ReturnedSays, ReadsASlot, UsesItsAllowance}
 use Rattle.pattern_search.proofs.Saying.{says}
 use Rattle.search_questions.proofs.Asking.{seven-asked, seven-table}
