@@ -1,5 +1,5 @@
 -- What `complete` returns says document 01's answer, and when it is done. Assumes nothing.
-use mathlib.Core.Path.{_≡_, refl}
+use mathlib.Core.Path.{_≡_, refl, _∙_, ap}
 use Prim.Native.Nat.{ℕ}
 use native.Mathlib.Omega.{arith}
 use mathlib.Core.Bool.{Bool, true, false}
@@ -48,6 +48,10 @@ completed-says centroids order passes stars candidate scale =
     (told-ask (candidateFits order passes candidate scale) 14 _
     (told-ask (fourSound stars (candidate .stars)) 9 _
     (told-vectors (imageVectors centroids order (candidate .places) (scaleOf passes candidate scale)) stars candidate)))))))
+
+-- .. so `complete`'s equation has both its promises
+pub and-said : (centroids : List Float) (order : List ℕ) (passes stars : List Float) (candidate : Candidate) (scale : Float) (r : Completed) → r ≡ completedOf centroids order passes stars candidate scale → (r ≡ completedOf centroids order passes stars candidate scale) × (completedSays r ≡ completing centroids order passes stars candidate scale)
+and-said centroids order passes stars candidate scale r h = (h, ap completedSays h ∙ completed-says centroids order passes stars candidate scale)
 
 -- a yes to a question whose later ones are done
 yes : (t : Bool) (n : ℕ) (a : Answer) → completedAs (ask t (refused n) a) .answer ≡ Completion.Done → (t ≡ true) × (completedAs a .answer ≡ Completion.Done)

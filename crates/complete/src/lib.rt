@@ -4,8 +4,8 @@ ghost use mathlib.Core.Bool.{true};
 ghost use Prim.Native.Nat.{_/_, _<_};
 ghost use lib.ListN.{length};
 ghost use Rattle.preprocess.specs.Questions.{orderFits};
-ghost use Rattle.complete.specs.Answers.{vectors, refused, rowsOf, completedAs};
-ghost use Rattle.complete.specs.Completing.{placesRise, candidateFits, fourSound, scaleOf, imageVector, imageVectors, matchedOf, completedOf};
+ghost use Rattle.complete.specs.Answers.{vectors, refused, rowsOf, completedAs, completedSays};
+ghost use Rattle.complete.specs.Completing.{placesRise, candidateFits, fourSound, scaleOf, imageVector, imageVectors, matchedOf, completing, completedOf};
 ghost use Rattle.complete.specs.Held.{PlacesHeld};
 use candidates::Candidate;
 use pattern_entry::StarIndex;
@@ -167,6 +167,7 @@ pub fn complete(
     scale: f32,
 ) -> Completed
     ensures { λ r. ⌜ r ≡ completedOf (now (centroids .entry)) (now (order .entry)) (now (passes .entry)) (now (stars .entry)) candidate scale ⌝ }
+    ensures { λ r. ⌜ completedSays r ≡ completing (now (centroids .entry)) (now (order .entry)) (now (passes .entry)) (now (stars .entry)) candidate scale ⌝ }
 {
     if !preprocess::centroids_fit(centroids) {
         return refused(1);

@@ -1,17 +1,16 @@
 -- What is proved of the sweep; proofs/ has a proof of each under the name given beside it. Definitions only.
 use mathlib.Core.Path.{_≡_}
 use Prim.Native.Nat.{ℕ, _≤_, _<_}
-use mathlib.Core.Bool.{false, cond}
+use mathlib.Core.Bool.{false}
 use mathlib.Core.List.{List, [], _∷_}
 use lib.IntN.{negsuc}
-use lib.ListN.{length, take}
+use lib.ListN.{length}
 use lib.Ieee.{Float, fin}
 use Rattle.float_order.specs.Value.{one32}
 use Rattle.tolerance.specs.declared.Tolerance.{Tolerance}
 use Rattle.tolerance.specs.declared.Tolerance.the-variants.{Given}
-use Rattle.fov_sweep.specs.Sweep.{sweepOf, sweepFits, listFits, sweptOf, laterOf}
-use Rattle.fov_sweep.specs.declared.Swept.{Swept}
-use Rattle.fov_sweep.specs.declared.Swept.the-variants.{Values, Refused}
+use Rattle.fov_sweep.specs.Sweep.{sweepOf, sweptOf, laterOf}
+use Rattle.fov_sweep.specs.Answers.{sweptSays, sweeping}
 
 -- The bound on the offsets leaves nothing out: a list that fits the room is the same however many more offsets may be taken,
 -- and one that doesn't fit doesn't fit then: `more-offsets`.
@@ -20,23 +19,10 @@ MoreOffsets = (k room : ℕ) (estimate : Float) (error : Tolerance) (step : Floa
     → (length (sweepOf room estimate error step) ≤ room → sweepOf k estimate error step ≡ sweepOf room estimate error step)
     × (room < length (sweepOf room estimate error step) → room < length (sweepOf k estimate error step))
 
--- document 01's answer to a sweep: a refusal's number, or the values
-pub data Answer : Type 0 where
-  refused : ℕ → Answer
-  values : List Float → Answer
-
--- what the code's answer says, with the lent slice as it is afterwards
-abbrev pub said : Swept → List Float → Answer
-said (Values n) later = values (take n later)
-said (Refused n) later = refused n
-
--- 12, then 13, then the values: `says-the-answer`
+-- What `build_fov_sweep` returns, with the slice that it leaves, says document 01's answer: `says-the-answer`.
 abbrev pub SaysTheAnswer : Type 0
 SaysTheAnswer = (estimate : Float) (error : Tolerance) (step : Float) (before : List Float)
-    → said (sweptOf estimate error step (length before)) (laterOf estimate error step before)
-    ≡ cond (sweepFits estimate error step)
-    (cond (listFits estimate error step (length before)) (values (sweepOf (length before) estimate error step)) (refused 13))
-    (refused 12)
+    → sweptSays (sweptOf estimate error step (length before)) (laterOf estimate error step before) ≡ sweeping estimate error step (length before)
 
 abbrev half : Float
 half = fin false 1 (negsuc 0)

@@ -4,6 +4,7 @@ ghost use mathlib.Core.List.{_∷_, _++_};
 ghost use Prim.Native.Nat.{_+_, _≤_, min};
 ghost use lib.ListN.{length, take, drop};
 ghost use Rattle.fov_sweep.specs.Sweep.{sweepFits, reachOf, pairAt, pairsFrom, sweptOf, laterOf};
+ghost use Rattle.fov_sweep.specs.Answers.{sweptSays, sweeping};
 use tolerance::Tolerance;
 
 // The f32 nearest to pi, bits 40490FDB.
@@ -119,6 +120,7 @@ fn write_values(estimate: f32, reach: f32, step: f32, out: &mut [f32])
 // The estimate, then estimate + offset and, if above 0, estimate − offset, for offsets a step apart. Questions 12 and 13; the list is counted before anything is written.
 pub fn build_fov_sweep(estimate: f32, error: Tolerance, step: f32, out: &mut [f32]) -> Swept
     ensures { λ r. ⌜ (r ≡ sweptOf estimate error step (length (now (out .entry)))) × (now (out .exit) ≡ laterOf estimate error step (now (out .entry))) ⌝ }
+    ensures { λ r. ⌜ sweptSays r (now (out .exit)) ≡ sweeping estimate error step (length (now (out .entry))) ⌝ }
 {
     if !sweep_fits(estimate, error, step) {
         return Swept::Refused(12);

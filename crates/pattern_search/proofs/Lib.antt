@@ -1,3 +1,4 @@
+pub mod Saying
 pub mod Turning
 pub mod Passing
 pub mod Calling

@@ -19,7 +19,7 @@ use Rattle.undivided_run.specs.declared.Status.{Status}
 use Rattle.undivided_run.specs.declared.Next.the-variants.{Ends}
 use Rattle.undivided_run.proofs.Progress.{progress-any, used-exactly}
 use Rattle.undivided_run.specs.Undivided.{cases}
-use Rattle.undivided_run.specs.Calls.{Answer, candidate, used, over, refused, calls, found}
+use Rattle.undivided_run.specs.Calls.{over, calls, found}
 use Rattle.undivided_run.specs.Step.{Lent, start, look, firstRead, searchCall, refusalOf, nineOf}
 use Rattle.undivided_run.specs.Listing.{FairList}
 use Rattle.undivided_run.specs.Exists.{Keyed}
@@ -31,18 +31,12 @@ use Rattle.search_feed.specs.Feed.{feed}
 use Rattle.search_feed.proofs.Limits.{every-four-keyed, within-limits}
 use Rattle.search_feed.proofs.Sound.{opened-sound}
 use Rattle.search_questions.specs.Questions.{firstSeven, firstNo}
-use Rattle.pattern_search.specs.Answers.{lentOf, said, shown, searched, searchedSays}
+use Rattle.pattern_search.specs.Answers.{lentOf, searchedSays}
 use Rattle.pattern_search.specs.Listed.{Given, lentBy, returned, replies, lastState, answersOf, AllSame, Opens, EveryList, NeverRefused, RefusedAtMostFive, ReturnedSays, ReadsASlot, UsesItsAllowance}
+use Rattle.pattern_search.proofs.Saying.{says}
 use Rattle.search_questions.proofs.Asking.{seven-asked, seven-table}
 
 -- ---- the replies are the calls' answers
-says : (t : Answer Candidate × State) → searchedSays (searched t) ≡ t .0
-unfolding said shown
-says (candidate x, s) = refl
-says (used, s) = refl
-says (over z, s) = refl
-says (refused k, s) = refl
-
 pub returned-says : ReturnedSays
 returned-says st g = (says (searchCall st (lentBy g)), refl)
 

@@ -1,13 +1,11 @@
 -- Over the reads of a combination that give nothing: the walk after them, and what they leave of a call. Assumes nothing.
 use mathlib.Core.Path.{_≡_, refl, sym, _∙_, ap, subst}
-use Prim.Native.Nat.{ℕ, suc, _+_, _-_, _≤_, _<_}
+use Prim.Native.Nat.{ℕ, _+_, _-_, _≤_, _<_}
 use native.Mathlib.Omega.{arith}
 use native.Mathlib.Nat.{eq-or-lt-of-le}
-use mathlib.Core.Bool.{Bool, true, false, cond}
+use mathlib.Core.Bool.{Bool, true, false}
 use mathlib.Core.List.{List}
-use mathlib.Core.Logic.{_⊎_, inl, inr, ⊎-elim}
-use lib.Dec.{eqb}
-use lib.ListN.{getD}
+use mathlib.Core.Logic.{_⊎_, ⊎-elim}
 use lib.Ieee.{Float}
 use borrow.Author.Tests.{eq-eqb, ne-eqb}
 use Rattle.undivided_run.specs.declared.Position.{Position}
@@ -15,15 +13,15 @@ use Rattle.undivided_run.specs.declared.State.{State}
 use Rattle.undivided_run.specs.declared.Walk.{Walk}
 use Rattle.undivided_run.specs.declared.Next.the-variants.{Goes as goes}
 use Rattle.undivided_run.specs.Step.{bump}
-use Rattle.undivided_run.specs.Exists.{Here, Keyed}
+use Rattle.undivided_run.specs.Exists.{Keyed}
 use Rattle.undivided_run.specs.Good.{Good, goesOn}
 use Rattle.search_feed.specs.Data.{Data}
-use Rattle.search_feed.specs.Feed.{feed, hashOfRead}
-use Rattle.search_feed.specs.Desk.{PassDesk, FourDesk, ForPass, ForFour}
+use Rattle.search_feed.specs.Feed.{feed}
+use Rattle.search_feed.specs.Desk.{ForPass, ForFour}
 use Rattle.search_feed.specs.declared.Held.{Held}
 use Rattle.search_feed.proofs.Limits.{every-four-keyed}
 use Rattle.chains.specs.Chains.{stand}
-use Rattle.chains.specs.Quiet.{keyAt, Quiet, Leads}
+use Rattle.chains.specs.Quiet.{keyAt, Leads}
 use Rattle.chains.specs.declared.Stand.{Stand}
 use Rattle.chains.proofs.Quiets.{quiet-rest}
 use Rattle.chains.proofs.Standing.{stand-leads}

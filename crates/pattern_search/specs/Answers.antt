@@ -44,3 +44,7 @@ saysWith (Refused n) x = refused n
 
 abbrev pub searchedSays : Searched → Answer Candidate
 searchedSays r = saysWith (r .answer) (r .candidate)
+
+-- .. with the state that it leaves
+abbrev pub replySays : Searched → Answer Candidate × State
+replySays r = (searchedSays r, r .state)

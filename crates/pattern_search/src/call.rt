@@ -8,7 +8,7 @@ ghost use Rattle.undivided_run.specs.Good.{goesOn};
 ghost use Rattle.search_feed.specs.Data.{frameOf, dataOf};
 ghost use Rattle.search_feed.specs.Feed.{feed};
 ghost use Rattle.search_questions.specs.Questions.{firstSeven};
-ghost use Rattle.pattern_search.specs.Answers.{searched, lentOf};
+ghost use Rattle.pattern_search.specs.Answers.{searched, lentOf, replySays};
 ghost use Rattle.pattern_search.specs.Turns.{Ready};
 use crate::Answer;
 use crate::Searched;
@@ -209,6 +209,7 @@ pub fn search(
     allowance: u64,
 ) -> Searched
     ensures { λ r. ⌜ r ≡ searched (searchCall state (lentOf (dataOf (frameOf (now (centroids .entry)) (now (order .entry)) config (now (passes .entry))) slots (now (words .entry)) (now (packed .entry)) (now (stars .entry))) allowance)) ⌝ }
+    ensures { λ r. ⌜ replySays r ≡ searchCall state (lentOf (dataOf (frameOf (now (centroids .entry)) (now (order .entry)) config (now (passes .entry))) slots (now (words .entry)) (now (packed .entry)) (now (stars .entry))) allowance) ⌝ }
 {
     match search_questions::first_seven(centroids, order, config, passes, slots, words, stars) {
         Asked::No(k) => plain(Answer::Refused(k), state),

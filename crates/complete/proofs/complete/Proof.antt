@@ -9,6 +9,7 @@ use Rattle.pattern_entry.specs.Stars.{starsFit}
 use Rattle.complete.specs.Answers.{vectors, completedAs}
 use Rattle.complete.specs.Completing.{candidateFits, fourSound, scaleOf, imageVectors, matchedOf}
 use Rattle.complete.proofs.Places.{places-held, pass-exists, places-rise, stars-held}
+use Rattle.complete.proofs.Saying.{and-said}
 use Rattle.complete.proofs.Asking.{no-1, no-2, no-3, no-5, no-7, no-14, no-9, all-yes}
 use borrow.Author.Needs.{needs}
 use Rattle.complete.proofs.complete.Statement.{statement}
@@ -54,7 +55,7 @@ refused-requires : tie.Need-refused-requires
 refused-requires c κs = search needs
 
 returns : tie.Need-returns
-returns c = c .refused .ensures ∙ no-1 _ _ _ _ _ _ (sym (c .before .before .centroids-fit .ensures) ∙ not-true _ (c .before .if1 .taken))
+returns c = and-said _ _ _ _ _ _ _ (c .refused .ensures ∙ no-1 _ _ _ _ _ _ (sym (c .before .before .centroids-fit .ensures) ∙ not-true _ (c .before .if1 .taken)))
 
 coordinates-fit-requires : tie.Need-coordinates-fit-requires
 coordinates-fit-requires c κs = search needs
@@ -63,7 +64,7 @@ refused-requires-2 : tie.Need-refused-requires-2
 refused-requires-2 c κs = search needs
 
 returns-2 : tie.Need-returns-2
-returns-2 c = c .refused2 .ensures ∙ no-2 _ _ _ _ _ _ (yes-1 (c .before .before .before)) (sym (c .before .before .coordinates-fit .ensures) ∙ not-true _ (c .before .if2 .taken))
+returns-2 c = and-said _ _ _ _ _ _ _ (c .refused2 .ensures ∙ no-2 _ _ _ _ _ _ (yes-1 (c .before .before .before)) (sym (c .before .before .coordinates-fit .ensures) ∙ not-true _ (c .before .if2 .taken)))
 
 order-fits-requires : tie.Need-order-fits-requires
 order-fits-requires c κs = search needs
@@ -72,7 +73,7 @@ refused-requires-3 : tie.Need-refused-requires-3
 refused-requires-3 c κs = search needs
 
 returns-3 : tie.Need-returns-3
-returns-3 c = c .refused3 .ensures ∙ no-3 _ _ _ _ _ _ (yes-1 (c .before .before .before .before .before)) (yes-2 (c .before .before .before)) (sym (c .before .before .order-fits .ensures) ∙ not-true _ (c .before .if3 .taken))
+returns-3 c = and-said _ _ _ _ _ _ _ (c .refused3 .ensures ∙ no-3 _ _ _ _ _ _ (yes-1 (c .before .before .before .before .before)) (yes-2 (c .before .before .before)) (sym (c .before .before .order-fits .ensures) ∙ not-true _ (c .before .if3 .taken)))
 
 passes-fit-requires : tie.Need-passes-fit-requires
 passes-fit-requires c κs = search needs
@@ -81,7 +82,7 @@ refused-requires-4 : tie.Need-refused-requires-4
 refused-requires-4 c κs = search needs
 
 returns-4 : tie.Need-returns-4
-returns-4 c = c .refused4 .ensures ∙ no-5 _ _ _ _ _ _ (yes-1 (c .before .before .before .before .before .before .before)) (yes-2 (c .before .before .before .before .before)) (yes-3 (c .before .before .before)) (sym (c .before .before .passes-fit .ensures) ∙ not-true _ (c .before .if4 .taken))
+returns-4 c = and-said _ _ _ _ _ _ _ (c .refused4 .ensures ∙ no-5 _ _ _ _ _ _ (yes-1 (c .before .before .before .before .before .before .before)) (yes-2 (c .before .before .before .before .before)) (yes-3 (c .before .before .before)) (sym (c .before .before .passes-fit .ensures) ∙ not-true _ (c .before .if4 .taken)))
 
 stars-fit-requires : tie.Need-stars-fit-requires
 stars-fit-requires c κs = search needs
@@ -90,7 +91,7 @@ refused-requires-5 : tie.Need-refused-requires-5
 refused-requires-5 c κs = search needs
 
 returns-5 : tie.Need-returns-5
-returns-5 c = c .refused5 .ensures ∙ no-7 _ _ _ _ _ _ (yes-1 (c .before .before .before .before .before .before .before .before .before)) (yes-2 (c .before .before .before .before .before .before .before)) (yes-3 (c .before .before .before .before .before)) (yes-5 (c .before .before .before)) (sym (c .before .before .stars-fit .ensures) ∙ not-true _ (c .before .if5 .taken))
+returns-5 c = and-said _ _ _ _ _ _ _ (c .refused5 .ensures ∙ no-7 _ _ _ _ _ _ (yes-1 (c .before .before .before .before .before .before .before .before .before)) (yes-2 (c .before .before .before .before .before .before .before)) (yes-3 (c .before .before .before .before .before)) (yes-5 (c .before .before .before)) (sym (c .before .before .stars-fit .ensures) ∙ not-true _ (c .before .if5 .taken)))
 
 candidate-fits-requires : tie.Need-candidate-fits-requires
 candidate-fits-requires c κs = search needs
@@ -99,7 +100,7 @@ refused-requires-6 : tie.Need-refused-requires-6
 refused-requires-6 c κs = search needs
 
 returns-6 : tie.Need-returns-6
-returns-6 c = c .refused6 .ensures ∙ no-14 _ _ _ _ _ _ (yes-1 (c .before .before .before .before .before .before .before .before .before .before .before)) (yes-2 (c .before .before .before .before .before .before .before .before .before)) (yes-3 (c .before .before .before .before .before .before .before)) (yes-5 (c .before .before .before .before .before)) (yes-7 (c .before .before .before)) (sym (c .before .before .candidate-fits .ensures) ∙ not-true _ (c .before .if6 .taken))
+returns-6 c = and-said _ _ _ _ _ _ _ (c .refused6 .ensures ∙ no-14 _ _ _ _ _ _ (yes-1 (c .before .before .before .before .before .before .before .before .before .before .before)) (yes-2 (c .before .before .before .before .before .before .before .before .before)) (yes-3 (c .before .before .before .before .before .before .before)) (yes-5 (c .before .before .before .before .before)) (yes-7 (c .before .before .before)) (sym (c .before .before .candidate-fits .ensures) ∙ not-true _ (c .before .if6 .taken)))
 
 four-sound-requires : tie.Need-four-sound-requires
 four-sound-requires c κs = search needs
@@ -108,7 +109,7 @@ refused-requires-7 : tie.Need-refused-requires-7
 refused-requires-7 c κs = search needs
 
 returns-7 : tie.Need-returns-7
-returns-7 c = c .refused7 .ensures ∙ no-9 _ _ _ _ _ _ (yes-1 (c .before .before .before .before .before .before .before .before .before .before .before .before .before .before)) (yes-2 (c .before .before .before .before .before .before .before .before .before .before .before .before)) (yes-3 (c .before .before .before .before .before .before .before .before .before .before)) (yes-5 (c .before .before .before .before .before .before .before .before)) (yes-7 (c .before .before .before .before .before .before)) (yes-14 (c .before .before .before .before)) (sym (c .before .before .four-sound .ensures) ∙ not-true _ (c .before .if7 .taken))
+returns-7 c = and-said _ _ _ _ _ _ _ (c .refused7 .ensures ∙ no-9 _ _ _ _ _ _ (yes-1 (c .before .before .before .before .before .before .before .before .before .before .before .before .before .before)) (yes-2 (c .before .before .before .before .before .before .before .before .before .before .before .before)) (yes-3 (c .before .before .before .before .before .before .before .before .before .before)) (yes-5 (c .before .before .before .before .before .before .before .before)) (yes-7 (c .before .before .before .before .before .before)) (yes-14 (c .before .before .before .before)) (sym (c .before .before .four-sound .ensures) ∙ not-true _ (c .before .if7 .taken)))
 
 pixel-scale-requires : tie.Need-pixel-scale-requires
 pixel-scale-requires c κs = pass-exists _ _ _ _ (yes-14 (c .before .before .before .before))
@@ -126,7 +127,7 @@ done-requires : tie.Need-done-requires
 done-requires c κs = search needs
 
 returns-8 : tie.Need-returns-8
-returns-8 c = c .done .ensures ∙ ap₂ (λ v s. completedAs (vectors v s)) (drawn (c .before .before)) (c .before .star-vectors .ensures) ∙ all-yes _ _ _ _ _ _ (yes-1 (c .before .before .before .before .before .before .before .before .before .before .before .before .before .before .before .before .before .before .before)) (yes-2 (c .before .before .before .before .before .before .before .before .before .before .before .before .before .before .before .before .before)) (yes-3 (c .before .before .before .before .before .before .before .before .before .before .before .before .before .before .before)) (yes-5 (c .before .before .before .before .before .before .before .before .before .before .before .before .before)) (yes-7 (c .before .before .before .before .before .before .before .before .before .before .before)) (yes-14 (c .before .before .before .before .before .before .before .before .before)) (yes-9 (c .before .before .before .before .before .before))
+returns-8 c = and-said _ _ _ _ _ _ _ (c .done .ensures ∙ ap₂ (λ v s. completedAs (vectors v s)) (drawn (c .before .before)) (c .before .star-vectors .ensures) ∙ all-yes _ _ _ _ _ _ (yes-1 (c .before .before .before .before .before .before .before .before .before .before .before .before .before .before .before .before .before .before .before)) (yes-2 (c .before .before .before .before .before .before .before .before .before .before .before .before .before .before .before .before .before)) (yes-3 (c .before .before .before .before .before .before .before .before .before .before .before .before .before .before .before)) (yes-5 (c .before .before .before .before .before .before .before .before .before .before .before .before .before)) (yes-7 (c .before .before .before .before .before .before .before .before .before .before .before)) (yes-14 (c .before .before .before .before .before .before .before .before .before)) (yes-9 (c .before .before .before .before .before .before)))
 
 pub complete-spec : {M : Type 1} → statement M
 complete-spec =

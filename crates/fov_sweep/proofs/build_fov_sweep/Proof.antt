@@ -2,6 +2,7 @@
 use mathlib.Core.Path.{_∙_, sym}
 use borrow.Author.Needs.{needs}
 use borrow.Author.Tests.{not-true, not-false}
+use Rattle.fov_sweep.proofs.Answers.{says-by}
 use Rattle.fov_sweep.proofs.Whole.{refused-12, refused-13, swept}
 use Rattle.fov_sweep.proofs.build_fov_sweep.Statement.{statement}
 use Rattle.fov_sweep.proofs.build_fov_sweep.Tie as tie
@@ -12,7 +13,8 @@ sweep-fits-requires c κs = search needs
 returns : tie.Need-returns
 returns c =
     let a = c .before .before .before .args in
-    refused-12 (a .estimate) (a .error) (a .step) (a .out .now) (sym (c .before .sweep-fits .ensures) ∙ not-true _ (c .if1 .taken))
+    let h = refused-12 (a .estimate) (a .error) (a .step) (a .out .now) (sym (c .before .sweep-fits .ensures) ∙ not-true _ (c .if1 .taken)) in
+    (h, says-by (a .estimate) (a .error) (a .step) (a .out .now) _ _ h)
 
 reach-of-requires : tie.Need-reach-of-requires
 reach-of-requires c κs = search needs
@@ -23,7 +25,8 @@ count-values-requires c κs = search needs
 returns-2 : tie.Need-returns-2
 returns-2 c =
     let a = c .before .before .before .before .before .before .args in
-    refused-13 (a .estimate) (a .error) (a .step) (a .out .now) (sym (c .before .before .before .before .sweep-fits .ensures) ∙ not-false _ (c .before .before .before .if1 .left)) _ (c .before .before .reach-of .ensures) _ (c .before .count-values .ensures) (c .if2 .taken)
+    let h = refused-13 (a .estimate) (a .error) (a .step) (a .out .now) (sym (c .before .before .before .before .sweep-fits .ensures) ∙ not-false _ (c .before .before .before .if1 .left)) _ (c .before .before .reach-of .ensures) _ (c .before .count-values .ensures) (c .if2 .taken) in
+    (h, says-by (a .estimate) (a .error) (a .step) (a .out .now) _ _ h)
 
 write-values-requires : tie.Need-write-values-requires
 write-values-requires c κs = search needs
@@ -34,7 +37,8 @@ same-length c = search needs
 returns-3 : tie.Need-returns-3
 returns-3 c =
     let a = c .before .before .before .before .before .before .before .before .before .before .args in
-    swept (a .estimate) (a .error) (a .step) (a .out .now) (sym (c .before .before .before .before .before .before .before .before .sweep-fits .ensures) ∙ not-false _ (c .before .before .before .before .before .before .before .if1 .left)) _ (c .before .before .before .before .before .before .reach-of .ensures) _ (c .before .before .before .before .before .count-values .ensures) (c .before .before .before .before .if2 .left) _ (c .before .before .write-values .ensures)
+    let h = swept (a .estimate) (a .error) (a .step) (a .out .now) (sym (c .before .before .before .before .before .before .before .before .sweep-fits .ensures) ∙ not-false _ (c .before .before .before .before .before .before .before .if1 .left)) _ (c .before .before .before .before .before .before .reach-of .ensures) _ (c .before .before .before .before .before .count-values .ensures) (c .before .before .before .before .if2 .left) _ (c .before .before .write-values .ensures) in
+    (h, says-by (a .estimate) (a .error) (a .step) (a .out .now) _ _ h)
 
 pub build-fov-sweep-spec : {M : Type 1} → statement M
 build-fov-sweep-spec =

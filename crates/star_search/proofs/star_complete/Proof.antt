@@ -19,7 +19,7 @@ returns c =
     (c .before .before .candidate-of .result)
     (c .before .before .candidate-of .ensures)
     (c .before .complete .result)
-    (c .before .complete .ensures)
+    (c .before .complete .ensures .0)
     (c .completed-numbers .result)
     (c .completed-numbers .ensures)
 

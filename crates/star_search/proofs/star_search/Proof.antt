@@ -24,7 +24,7 @@ returns c =
     (c .before .before .state-of .result)
     (c .before .before .state-of .ensures)
     (c .before .search .result)
-    (c .before .search .ensures)
+    (c .before .search .ensures .0)
     (c .answer-of .result)
     (c .answer-of .ensures)
 

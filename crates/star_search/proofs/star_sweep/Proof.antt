@@ -22,7 +22,7 @@ returns : tie.Need-returns
 returns c =
     let a = c .before .before .before .before .before .before .before .args in
     let o = c .before .before .before .before .before .option-of .ensures in
-    let b = c .before .before .before .build-fov-sweep .ensures in (
+    let b = c .before .before .before .build-fov-sweep .ensures .0 in (
       c .swept-numbers .ensures
           ∙ ap sweptNumbers (b .0 ∙ ap (λ t. sweptOf (a .estimate) t (a .step) (length (a .out .now))) o),
       b .1 ∙ ap (λ t. laterOf (a .estimate) t (a .step) (a .out .now)) o,

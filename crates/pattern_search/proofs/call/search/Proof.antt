@@ -2,6 +2,7 @@ use mathlib.Core.Path.{sym, _∙_, ap}
 use borrow.Author.Needs.{needs}
 use Rattle.search_feed.specs.Data.{frameOf, dataOf}
 use Rattle.search_questions.specs.Questions.{askedOf}
+use Rattle.pattern_search.proofs.Saying.{and-said}
 use Rattle.pattern_search.proofs.Calling.{call-seven}
 use Rattle.pattern_search.proofs.call.search.Statement.{statement}
 use Rattle.pattern_search.proofs.call.search.Tie as tie
@@ -25,10 +26,10 @@ returns : tie.Need-returns
 returns c =
     let b = c .before .before .before .before .before .before .before .before .before .before .before in
     let D = dataOf (frameOf (b .args .centroids .now) (b .args .order .now) (b .args .config) (b .args .passes .now)) (b .args .slots) (b .args .words .now) (b .args .packed .now) (b .args .stars .now) in
-    call-seven D (b .args .state) (b .args .allowance) _ _ (c .before .before .before .before .first-seven .ensures) (c .before .before .k .given .1) _ (c .plain .ensures)
+    and-said _ _ (call-seven D (b .args .state) (b .args .allowance) _ _ (c .before .before .before .before .first-seven .ensures) (c .before .before .k .given .1) _ (c .plain .ensures))
 
 returns-2 : tie.Need-returns-2
-returns-2 c = search needs
+returns-2 c = and-said _ _ (c .go .ensures)
 
 pub search-spec : {M : Type 1} → statement M
 search-spec =
