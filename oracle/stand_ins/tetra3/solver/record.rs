@@ -105,7 +105,7 @@ pub struct Given {
 }
 
 /// The database that a run is given.
-fn database(given: &Given) -> SolverDatabase {
+pub(super) fn database(given: &Given) -> SolverDatabase {
     let packed = PackedStore::Owned(given.packed.clone());
     SolverDatabase {
         star_catalog: StarCatalog::new(1, Vec::new()),
@@ -129,7 +129,7 @@ fn database(given: &Given) -> SolverDatabase {
 }
 
 /// The configuration that a run is given: no clock, no velocity, no hint.
-fn configuration(given: &Given) -> SolveConfig {
+pub(super) fn configuration(given: &Given) -> SolveConfig {
     let camera = CameraModel {
         focal_length_px: given.focal_length,
         image_width: given.width,
