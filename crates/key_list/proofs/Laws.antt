@@ -159,7 +159,7 @@ apart-within c lo hi v p q =
 
 -- every key in the ranges that never falls is in the list
 module _ (c lo hi : List ℕ) (p q r s t : ℕ) (P : Part 0 p lo hi) (Q : Part 1 q lo hi) (R : Part 2 r lo hi) (S : Part 3 s lo hi) (U : Part 4 t lo hi) where
-  far-within : far c (p ∷ q ∷ r ∷ s ∷ t ∷ []) ≤ farthest c lo hi
+  pub far-within : far c (p ∷ q ∷ r ∷ s ∷ t ∷ []) ≤ farthest c lo hi
   unfolding far farthest farther
   far-within =
       omega (

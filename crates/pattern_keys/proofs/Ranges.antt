@@ -25,6 +25,7 @@ use Rattle.key_list.specs.Listed.{Has, here, there, Listed, Precedes, Ordered, 
 use Rattle.pattern_keys.specs.Claims.{KeysCount, ImageListed, ImageFirst, KeyListed, ListedParts}
 use Rattle.key_list.proofs.Laws.{keys-length, has-some}
 use Rattle.key_list.proofs.Exact.{keys-all, keys-only}
+use Rattle.key_list.proofs.Near.{has-at}
 use Rattle.key_list.proofs.Outward.{keys-ordered, none-before}
 
 -- a number of bins is exact as an f32
@@ -69,7 +70,7 @@ ranges-narrow r e B i t =
       fifth = range-narrow (getD r 4 nan) e B (i .fifth) t;
     }
 
-image-in-ranges : (r : List Float) (e : Float) (B : ℕ) → Ratios r → NarrowTolerance e B → Listed (lowerOf r e B) (upperOf r e B) (keyOf r B)
+pub image-in-ranges : (r : List Float) (e : Float) (B : ℕ) → Ratios r → NarrowTolerance e B → Listed (lowerOf r e B) (upperOf r e B) (keyOf r B)
 unfolding keyOf lowerOf upperOf
 image-in-ranges r e B i t =
     record {
@@ -106,11 +107,6 @@ first-of {c} {k} (there x h) (ordered p o) e = absurd (none-before c x (subst (�
 pub image-first : ImageFirst
 unfolding keysFor
 image-first r e B i t = first-of (image-listed r e B i t) (keys-ordered (keyOf r B) (lowerOf r e B) (upperOf r e B)) refl
-
-has-at : (l : List (List ℕ)) (i : ℕ) → i < length l → Has (getD l i []) l
-has-at [] i h = absurd (omega arith)
-has-at (x ∷ l) zero h = here l
-has-at (x ∷ l) (suc i) h = there x (has-at l i (omega arith))
 
 pub key-listed : KeyListed
 unfolding keysFor

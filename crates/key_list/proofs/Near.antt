@@ -1,0 +1,84 @@
+-- The keys in narrow ranges are near to one another: their squared distances are below 46, and so is no pass past that needed. Assumes nothing.
+use mathlib.Core.Path.{_≡_, refl, sym, ap, _∙_, subst}
+use Prim.Native.Nat.{ℕ, zero, suc, _+_, _-_, _≤_, _<_}
+use native.Mathlib.Omega.{arith}
+use native.Mathlib.Nat.{mul-le-mul}
+use mathlib.Core.List.{List, [], _∷_, _++_, append-nil}
+use lib.ListN.{length, getD, take}
+use lib.Seq.{getD-take}
+use Rattle.key_list.specs.Keys.{flat, inRange, apart, far, atDistance, nearer, farthest, keysOf}
+use Rattle.key_list.specs.Passes.{passes}
+use Rattle.key_list.specs.Listed.{Has, here, there, Listed}
+use Rattle.key_list.specs.Steps.{Holds, Narrow, Measured, Near}
+use Rattle.key_list.proofs.Lists.{at-no, nearer-more, passes-is}
+use Rattle.key_list.proofs.Laws.{far-within}
+use Rattle.key_list.proofs.Exact.{in-range-from}
+
+-- ---- distances
+nine : (x y lo hi : ℕ) → (lo ≤ x) × (x ≤ hi) → (lo ≤ y) × (y ≤ hi) → hi ≤ lo + 3 → apart x y ≤ 9
+unfolding apart
+nine x y lo hi p q h = let a : x - y + (y - x) ≤ 3 = omega arith in let m = mul-le-mul a a in omega arith
+
+pub far-near : (lo hi c k : List ℕ) → Narrow lo hi → Listed lo hi c → Listed lo hi k → far c k < 46
+unfolding far
+far-near lo hi c k w l m =
+    rw (l .is, m .is)
+    (omega (
+      arith,
+      nine (l .p) (m .p) (getD lo 0 0) (getD hi 0 0) (l .first) (m .first) (w .first .0),
+      nine (l .q) (m .q) (getD lo 1 0) (getD hi 1 0) (l .second) (m .second) (w .second .0),
+      nine (l .r) (m .r) (getD lo 2 0) (getD hi 2 0) (l .third) (m .third) (w .third .0),
+      nine (l .s) (m .s) (getD lo 3 0) (getD hi 3 0) (l .fourth) (m .fourth) (w .fourth .0),
+      nine (l .t) (m .t) (getD lo 4 0) (getD hi 4 0) (l .fifth) (m .fifth) (w .fifth .0),
+    ))
+
+pub has-at : (l : List (List ℕ)) (i : ℕ) → i < length l → Has (getD l i []) l
+has-at [] i h = absurd (omega arith)
+has-at (x ∷ l) zero h = here l
+has-at (x ∷ l) (suc i) h = there x (has-at l i (omega arith))
+
+pub measured-near : (c lo hi : List ℕ) (a : List (List ℕ)) (n : ℕ) (dist : List ℕ) → Narrow lo hi → Listed lo hi c → Holds a n (inRange lo hi) → Measured c a n dist → Near dist n
+measured-near c lo hi a n dist w l h m =
+    record {
+      each = λ i k.
+        let e : getD a i [] ≡ getD (inRange lo hi) i [] = sym (getD-take n a i [] k) ∙ ap (λ (y : List (List ℕ)). getD y i []) (h .front) in
+        let g = has-at (inRange lo hi) i (omega (arith, h .count)) in
+        let f = far-near lo hi c (getD (inRange lo hi) i []) w l (in-range-from lo hi g) in
+        omega (arith, m .each i k, ap (far c) e);
+    }
+
+-- ---- passes past the farthest key add none
+none-at : (c : List ℕ) (d : ℕ) (ks : List (List ℕ)) → ((k : List ℕ) → Has k ks → far c k < d) → flat (atDistance c d) ks ≡ []
+unfolding flat
+none-at c d [] h = refl
+none-at c d (k ∷ ks) h =
+    let f = h k (here ks) in
+    ap (λ (z : List (List ℕ)). z ++ flat (atDistance c d) ks) (at-no c k d (λ e. omega arith)) ∙ none-at c d ks (λ x g. h x (there k g))
+
+nearer-enough : (c : List ℕ) (ks : List (List ℕ)) (m n : ℕ) → ((k : List ℕ) → Has k ks → far c k < m) → nearer c ks (m + n) ≡ nearer c ks m
+nearer-enough c ks m zero h = let e : m + 0 ≡ m = omega arith in ap (nearer c ks) e
+nearer-enough c ks m (suc n) h =
+    let e : m + suc n ≡ m + n + 1 = omega arith in
+    ap (nearer c ks) e
+    ∙ nearer-more c ks (m + n)
+    ∙ ap (λ (z : List (List ℕ)). nearer c ks (m + n) ++ z) (none-at c (m + n) ks (λ k g. let f = h k g in omega arith))
+    ∙ append-nil (nearer c ks (m + n))
+    ∙ nearer-enough c ks m n h
+
+within : (c lo hi k : List ℕ) → Listed lo hi k → far c k ≤ farthest c lo hi
+within c lo hi k m = subst (λ (y : List ℕ). far c y ≤ farthest c lo hi) (sym (m .is)) (far-within c lo hi (m .p) (m .q) (m .r) (m .s) (m .t) (m .first) (m .second) (m .third) (m .fourth) (m .fifth))
+
+pub keys-near : (c lo hi : List ℕ) → Narrow lo hi → Listed lo hi c → nearer c (inRange lo hi) 46 ≡ keysOf c lo hi
+unfolding keysOf
+keys-near c lo hi w l =
+    let ks = inRange lo hi in
+    let m = suc (farthest c lo hi) in
+    let e : 46 + m ≡ m + 46 = omega arith in
+    sym (nearer-enough c ks 46 m (λ k g. far-near lo hi c k w l (in-range-from lo hi g)))
+    ∙ ap (nearer c ks) e
+    ∙ nearer-enough c ks m 46 (λ k g. let f = within c lo hi k (in-range-from lo hi g) in omega arith)
+
+-- the passes over the measured keys are the list
+pub passes-keys : (c lo hi : List ℕ) (a : List (List ℕ)) (n : ℕ) (dist : List ℕ) → Narrow lo hi → Listed lo hi c → n ≤ 1024 → Holds a n (inRange lo hi) → Measured c a n dist → passes a dist n 46 ≡ keysOf c lo hi
+passes-keys c lo hi a n dist w l few h m =
+    passes-is c a dist n 46 (omega (arith, h .long)) m ∙ ap (λ (z : List (List ℕ)). nearer c z 46) (h .front) ∙ keys-near c lo hi w l
