@@ -41,10 +41,10 @@ pub measured-near : (c lo hi : List ℕ) (a : List (List ℕ)) (n : ℕ) (dist :
 measured-near c lo hi a n dist w l h m =
     record {
       each = λ i k.
-        let e : getD a i [] ≡ getD (inRange lo hi) i [] = sym (getD-take n a i [] k) ∙ ap (λ (y : List (List ℕ)). getD y i []) (h .front) in
-        let g = has-at (inRange lo hi) i (omega (arith, h .count)) in
-        let f = far-near lo hi c (getD (inRange lo hi) i []) w l (in-range-from lo hi g) in
-        omega (arith, m .each i k, ap (far c) e);
+          let e : getD a i [] ≡ getD (inRange lo hi) i [] = sym (getD-take n a i [] k) ∙ ap (λ (y : List (List ℕ)). getD y i []) (h .front) in
+          let g = has-at (inRange lo hi) i (omega (arith, h .count)) in
+          let f = far-near lo hi c (getD (inRange lo hi) i []) w l (in-range-from lo hi g) in
+          omega (arith, m .each i k, ap (far c) e);
     }
 
 -- ---- passes past the farthest key add none
