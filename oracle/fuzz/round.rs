@@ -1,5 +1,6 @@
 //! The calls on one lending, and what is asked of every answer.
 
+use std::collections::BTreeSet;
 use std::fmt;
 
 use crate::guard::Arena;
@@ -44,6 +45,8 @@ pub struct Tally {
     sweep: [u64; 2],
     complete: [u64; 2],
     judged: u64,
+    /// The lengths that were lent: centroids, brightness list, passes, words, section, stars, fields of a sweep.
+    lengths: [BTreeSet<usize>; 7],
     pub wrong: u64,
 }
 
@@ -62,7 +65,9 @@ impl fmt::Display for Tally {
         writeln!(f, "  star_open: passed, refused {:?}", self.open)?;
         writeln!(f, "  star_slot and star_entry: filled, empty, refused {:?}", self.slot)?;
         writeln!(f, "  star_sweep: done, refused {:?}", self.sweep)?;
-        write!(f, "  star_complete: done, refused {:?}", self.complete)
+        writeln!(f, "  star_complete: done, refused {:?}", self.complete)?;
+        write!(f, "  different lengths of centroids, order, passes, words, packed, stars, out:")?;
+        self.lengths.iter().try_for_each(|seen| write!(f, " {} up to {}", seen.len(), seen.last().unwrap_or(&0)))
     }
 }
 
@@ -92,6 +97,11 @@ impl Round<'_> {
     /// Lends everything and makes its calls.
     pub fn run(mut self, arenas: &mut Arenas) {
         let lending = self.lending;
+        let (words, packed, stars) = (lending.words.len(), lending.packed.len(), lending.stars.len());
+        let lengths = [lending.coords.len(), lending.order.len(), lending.passes.len(), words, packed, stars];
+        for (seen, length) in self.tally.lengths.iter_mut().zip(lengths) {
+            seen.insert(length);
+        }
         let ends: [bool; 7] = std::array::from_fn(|_| self.rng.once_in(2));
         let frame = raw::Frame {
             centroids: arenas.coords.lend(&lending.coords, ends[0]),
@@ -230,6 +240,7 @@ impl Round<'_> {
         let given = self.rng.pick(&[0, 1, 1, 1, 2, u32::MAX]);
         let room = self.rng.below(1025) as usize;
         let before = vec![9.0; if self.rng.once_in(3) { room % 9 } else { room }];
+        self.tally.lengths[6].insert(before.len());
         let out = fields.lend_to_write(&before, high);
         let told = raw::sweep(estimate, given, error, step, out);
         self.tally.sweep[told.answer.min(1) as usize] += 1;

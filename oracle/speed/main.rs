@@ -93,8 +93,10 @@ fn main() {
     let rows = if all || says("rows") { all_rows(count) } else { Vec::new() };
     if all || says("growth") {
         let (combinations, slots) = all_growth(count);
-        if all && !quick {
-            std::fs::write("docs/speed.svg", plot::svg(&rows, &combinations, &slots)).expect("docs/ to write to");
+        if all {
+            let beside = std::env::current_exe().expect("this program").with_file_name("speed.svg");
+            let path = if quick { beside } else { "docs/speed.svg".into() };
+            std::fs::write(path, plot::svg(&rows, &combinations, &slots)).expect("a folder to write to");
         }
     }
     std::process::exit(i32::from(!rows.iter().all(Measured::met)));

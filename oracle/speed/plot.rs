@@ -61,12 +61,13 @@ impl Curves<'_> {
         let height = 220.0;
         let points = || self.list.iter().flat_map(|(_, _, list)| list);
         let (first, last) = (self.list[0].2[0].0 as f64, self.list[0].2.last().expect("a point").0 as f64);
-        let most = points().map(|(_, value)| *value).fold(0.0, f64::max) * 1.1;
+        let step = step(points().map(|(_, value)| *value).fold(1.0, f64::max));
+        let most = 5.0 * step;
         let x = |much: u64| LEFT + WIDTH * (much as f64 / first).ln() / (last / first).ln();
         let y = |value: f64| top + height * (1.0 - value / most);
         text(out, LEFT, top - 12.0, r#"font-weight="bold""#, self.title);
-        for part in 0..=4 {
-            let value = most * f64::from(part) / 4.0;
+        for part in 0..=5 {
+            let value = step * f64::from(part);
             line(out, LEFT, y(value), (WIDTH, 0.0), r##"stroke="#ddd""##);
             text(out, LEFT - 8.0, y(value) + 4.0, r#"text-anchor="end""#, &format!("{value:.0}"));
         }
@@ -78,13 +79,21 @@ impl Curves<'_> {
             let path: Vec<String> = list.iter().map(|(much, value)| format!("{:.1} {:.1}", x(*much), y(*value))).collect();
             writeln!(out, r#"<path d="M{}" fill="none" stroke="{colour}" stroke-width="2"/>"#, path.join("L")).unwrap();
             path.iter().for_each(|place| dot(out, place, colour));
-            text(out, 20.0, top + 60.0 + 20.0 * at as f64, &format!(r#"fill="{colour}""#), name);
+            text(out, 40.0, top + 60.0 + 20.0 * at as f64, &format!(r#"fill="{colour}""#), name);
         }
         line(out, LEFT, top, (0.0, height), r##"stroke="#333""##);
-        text(out, 20.0, top + 24.0, "", self.up);
+        let (x, y) = (LEFT - 56.0, top + height / 2.0);
+        text(out, x, y, &format!(r#"text-anchor="middle" transform="rotate(-90 {x} {y})""#), self.up);
         text(out, LEFT + WIDTH / 2.0, top + height + 38.0, r#"text-anchor="middle""#, self.across);
         top + height + 100.0
     }
+}
+
+/// A round step of which five reach a value.
+fn step(most: f64) -> f64 {
+    let power = 10f64.powf((most / 5.0).log10().floor());
+    let round = [1.0, 2.0, 2.5, 5.0, 10.0].map(|part| part * power);
+    round.into_iter().find(|step| 5.0 * step >= most).unwrap_or(most)
 }
 
 /// Adds a dot at a place.
@@ -128,7 +137,7 @@ pub fn svg(rows: &[Measured], combinations: &[Point], slots: &[Point]) -> String
             ("port", PORT, curve(slots, |p| p.port)),
             ("Rust", RUST, curve(slots, |p| p.rust)),
             ("plain random reads", GREY, curve(slots, |p| p.plain[0])),
-            ("plain, each waiting for the last", "#999", curve(slots, |p| p.plain[1])),
+            ("plain, each waiting for the last", "#b0a060", curve(slots, |p| p.plain[1])),
         ],
     }
     .draw(&mut out, next);
