@@ -41,8 +41,8 @@ pub measured-near : (c lo hi dist : List ℕ) (n : ℕ) → Narrow lo hi → Lis
 measured-near c lo hi dist n w l h m =
     record {
       each = λ i k.
-        let f = far-near lo hi c (getD (inRange lo hi) i []) w l (in-range-from lo hi (has-at (inRange lo hi) i (omega arith))) in
-        omega (arith, m i k);
+          let f = far-near lo hi c (getD (inRange lo hi) i []) w l (in-range-from lo hi (has-at (inRange lo hi) i (omega arith))) in
+          omega (arith, m i k);
     }
 
 -- ---- passes past the farthest key add none

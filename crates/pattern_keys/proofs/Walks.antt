@@ -45,18 +45,18 @@ module _ (c : List ℕ) (B : ℕ) where
         hash-of = λ i k. elim (lt-or-le i (length l)) [
           | inl x ↦ q .hash-before (m + i) (omega (arith, p .count)) ∙ p .hash-of i x ∙ ap (λ (z : List ℕ). hashOf z B) (sym (List·getD-append l n [] i x))
           | inr x ↦
-            let j = i - length l in
-            let e : m + i ≡ r + j = omega (arith, p .count) in
-            let g : i ≡ length l + j = omega arith in
-            ap (λ (z : ℕ). getD h″ z 0) e ∙ q .hash-of j (omega (arith, length-append l n)) ∙ ap (λ (z : List ℕ). hashOf z B) (sym (getD-append-add l n j []) ∙ ap (λ (z : ℕ). getD (l ++ n) z []) (sym g))
+              let j = i - length l in
+              let e : m + i ≡ r + j = omega (arith, p .count) in
+              let g : i ≡ length l + j = omega arith in
+              ap (λ (z : ℕ). getD h″ z 0) e ∙ q .hash-of j (omega (arith, length-append l n)) ∙ ap (λ (z : List ℕ). hashOf z B) (sym (getD-append-add l n j []) ∙ ap (λ (z : ℕ). getD (l ++ n) z []) (sym g))
         ];
         dist-of = λ i k. elim (lt-or-le i (length l)) [
           | inl x ↦ q .dist-before (m + i) (omega (arith, p .count)) ∙ p .dist-of i x ∙ ap (far c) (sym (List·getD-append l n [] i x))
           | inr x ↦
-            let j = i - length l in
-            let e : m + i ≡ r + j = omega (arith, p .count) in
-            let g : i ≡ length l + j = omega arith in
-            ap (λ (z : ℕ). getD d″ z 0) e ∙ q .dist-of j (omega (arith, length-append l n)) ∙ ap (far c) (sym (getD-append-add l n j []) ∙ ap (λ (z : ℕ). getD (l ++ n) z []) (sym g))
+              let j = i - length l in
+              let e : m + i ≡ r + j = omega (arith, p .count) in
+              let g : i ≡ length l + j = omega arith in
+              ap (λ (z : ℕ). getD d″ z 0) e ∙ q .dist-of j (omega (arith, length-append l n)) ∙ ap (far c) (sym (getD-append-add l n j []) ∙ ap (λ (z : ℕ). getD (l ++ n) z []) (sym g))
         ];
         wide = q .wide;
         long = q .long;
@@ -245,9 +245,9 @@ module _ (c lo hi : List ℕ) (B : ℕ) (w : Narrow lo hi) (l : Listed lo hi c) 
       record {
         count = e;
         each = λ i k.
-          sym (getD-take r out i 0 k)
-          ∙ ap (λ (y : List ℕ). getD y i 0) (s .front ∙ hashes-of)
-          ∙ map-at (keysOf c lo hi) i (omega arith);
+            sym (getD-take r out i 0 k)
+            ∙ ap (λ (y : List ℕ). getD y i 0) (s .front ∙ hashes-of)
+            ∙ map-at (keysOf c lo hi) i (omega arith);
         long = s .long;
       }
     where
