@@ -5,7 +5,6 @@ mod sums;
 mod valid;
 
 ghost use mathlib.Core.Path.{_≡_};
-ghost use Prim.Native.Nat.{_<_};
 ghost use lib.ListN.{length};
 ghost use Rattle.float_order.specs.Ratios.{Ratios};
 ghost use Rattle.key_list.specs.Keys.{keysOf};
@@ -26,10 +25,10 @@ fn two_values(c: [u32; 5], lo: [u32; 5], hi: [u32; 5], bins: u32, out: &mut [u64
     codes::listed(centre, valid, &table, out)
 }
 
-// The hashes of the keys of five ratios where every part has at most two values, in the keys' order: so many, to out, and else none. It needs no room but out.
-fn paired_hashes(r: [f32; 5], e: f32, bins: u32, out: &mut [u64; 1024]) -> usize
+// The hashes of the keys of five ratios, in the keys' order: so many, to out. What out holds past them is left open.
+pub fn key_hashes(r: [f32; 5], e: f32, bins: u32, out: &mut [u64; 1024]) -> usize
     requires { ⌜ Ratios r × NarrowTolerance e bins × (length (now out) ≡ 1024) ⌝ }
-    ensures { λ n. ⌜ (0 < n → Hashed (now (out .exit)) n (keysFor r e bins) bins) × (length (now (out .exit)) ≡ 1024) ⌝ }
+    ensures { λ n. ⌜ Hashed (now (out .exit)) n (keysFor r e bins) bins ⌝ }
 {
     let c = key_hash::compute_pattern_key(r, bins);
     let lo = ends::lower(r, e, bins, c);
@@ -37,40 +36,5 @@ fn paired_hashes(r: [f32; 5], e: f32, bins: u32, out: &mut [u64; 1024]) -> usize
     if ends::at_most_two(lo, hi) {
         return two_values(c, lo, hi, bins, out);
     }
-    0
-}
-
-fn no_keys() -> [[u16; 5]; 1024]
-    ensures { λ r. ⌜ length r ≡ 1024 ⌝ }
-{
-    [[0u16; 5]; 1024]
-}
-
-fn no_distances() -> [u64; 1024]
-    ensures { λ r. ⌜ length r ≡ 1024 ⌝ }
-{
-    [0u64; 1024]
-}
-
-// The same whatever the ranges, by the general list, whose arrays are made only here.
-fn by_list(r: [f32; 5], e: f32, bins: u32, out: &mut [u64; 1024]) -> usize
-    requires { ⌜ Ratios r × NarrowTolerance e bins × (length (now out) ≡ 1024) ⌝ }
-    ensures { λ n. ⌜ Hashed (now (out .exit)) n (keysFor r e bins) bins ⌝ }
-{
-    let mut list = no_keys();
-    let mut spare = no_keys();
-    let mut dist = no_distances();
-    pattern_keys::key_hashes(r, e, bins, out, &mut list, &mut spare, &mut dist)
-}
-
-// The hashes of the keys of five ratios, in the keys' order: so many, to out. What out holds past them is left open.
-pub fn key_hashes(r: [f32; 5], e: f32, bins: u32, out: &mut [u64; 1024]) -> usize
-    requires { ⌜ Ratios r × NarrowTolerance e bins × (length (now out) ≡ 1024) ⌝ }
-    ensures { λ n. ⌜ Hashed (now (out .exit)) n (keysFor r e bins) bins ⌝ }
-{
-    let n = paired_hashes(r, e, bins, out);
-    if 0 < n {
-        return n;
-    }
-    by_list(r, e, bins, out)
+    pattern_keys::enumerate_key_range(c, lo, hi, bins, out)
 }

@@ -3,13 +3,13 @@ use mathlib.Core.Path.{_≡_, refl, sym, ap, _∙_, subst}
 use Prim.Native.Nat.{ℕ, zero, suc, _+_, _-_, _≤_, _<_}
 use native.Mathlib.Omega.{arith}
 use native.Mathlib.Nat.{mul-le-mul}
-use mathlib.Core.List.{List, [], _∷_, _++_, append-nil}
-use lib.ListN.{length, getD, take}
-use lib.Seq.{getD-take}
+use mathlib.Core.List.{List, [], _∷_, _++_, map, append-nil}
+use lib.ListN.{length, getD}
+use lib.Seq.{take-all}
 use Rattle.key_list.specs.Keys.{flat, inRange, apart, far, atDistance, nearer, farthest, keysOf}
 use Rattle.key_list.specs.Passes.{passes}
 use Rattle.key_list.specs.Listed.{Has, here, there, Listed}
-use Rattle.key_list.specs.Steps.{Holds, Narrow, Measured, Near}
+use Rattle.key_list.specs.Steps.{Narrow, Near}
 use Rattle.key_list.proofs.Lists.{at-no, nearer-more, passes-is}
 use Rattle.key_list.proofs.Laws.{far-within}
 use Rattle.key_list.proofs.Exact.{in-range-from}
@@ -37,14 +37,12 @@ has-at [] i h = absurd (omega arith)
 has-at (x ∷ l) zero h = here l
 has-at (x ∷ l) (suc i) h = there x (has-at l i (omega arith))
 
-pub measured-near : (c lo hi : List ℕ) (a : List (List ℕ)) (n : ℕ) (dist : List ℕ) → Narrow lo hi → Listed lo hi c → Holds a n (inRange lo hi) → Measured c a n dist → Near dist n
-measured-near c lo hi a n dist w l h m =
+pub measured-near : (c lo hi dist : List ℕ) (n : ℕ) → Narrow lo hi → Listed lo hi c → n ≤ length (inRange lo hi) → ((i : ℕ) → i < n → getD dist i 0 ≡ far c (getD (inRange lo hi) i [])) → Near dist n
+measured-near c lo hi dist n w l h m =
     record {
       each = λ i k.
-          let e : getD a i [] ≡ getD (inRange lo hi) i [] = sym (getD-take n a i [] k) ∙ ap (λ (y : List (List ℕ)). getD y i []) (h .front) in
-          let g = has-at (inRange lo hi) i (omega (arith, h .count)) in
-          let f = far-near lo hi c (getD (inRange lo hi) i []) w l (in-range-from lo hi g) in
-          omega (arith, m .each i k, ap (far c) e);
+          let f = far-near lo hi c (getD (inRange lo hi) i []) w l (in-range-from lo hi (has-at (inRange lo hi) i (omega arith))) in
+          omega (arith, m i k);
     }
 
 -- ---- passes past the farthest key add none
@@ -78,7 +76,8 @@ keys-near c lo hi w l =
     ∙ ap (nearer c ks) e
     ∙ nearer-enough c ks m 46 (λ k g. let f = within c lo hi k (in-range-from lo hi g) in omega arith)
 
--- the passes over the measured keys are the list
-pub passes-keys : (c lo hi : List ℕ) (a : List (List ℕ)) (n : ℕ) (dist : List ℕ) → Narrow lo hi → Listed lo hi c → n ≤ 1024 → Holds a n (inRange lo hi) → Measured c a n dist → passes a dist n 46 ≡ keysOf c lo hi
-passes-keys c lo hi a n dist w l few h m =
-    passes-is c a dist n 46 (omega (arith, h .long)) m ∙ ap (λ (z : List (List ℕ)). nearer c z 46) (h .front) ∙ keys-near c lo hi w l
+-- where a has f of each key in the ranges, and dist its distance from c, the passes give f of each key of the list
+pub passes-keys : (f : List ℕ → ℕ) (c lo hi a dist : List ℕ) (n : ℕ) → Narrow lo hi → Listed lo hi c → n ≡ length (inRange lo hi) → ((i : ℕ) → i < n → getD a i 0 ≡ f (getD (inRange lo hi) i []))
+    → ((i : ℕ) → i < n → getD dist i 0 ≡ far c (getD (inRange lo hi) i [])) → passes a dist n 46 ≡ map f (keysOf c lo hi)
+passes-keys f c lo hi a dist n w l e p q =
+    passes-is f c (inRange lo hi) a dist n 46 (omega arith) p q ∙ ap (λ (z : List (List ℕ)). map f (nearer c z 46)) (take-all n (inRange lo hi) (omega arith)) ∙ ap (map f) (keys-near c lo hi w l)

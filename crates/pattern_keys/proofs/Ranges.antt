@@ -7,7 +7,6 @@ use mathlib.Core.List.{List, [], _∷_}
 use lib.IntN.{pos}
 use lib.Dec.{T, le→leb, lit≤}
 use lib.ListN.{length, getD}
-use lib.Seq.{getD-take}
 use lib.Ieee.{Float, nan, binary32, inFloat}
 use lib.Ieee.Scale.{finite}
 use Rattle.float_order.specs.Value.{zero32, one32}
@@ -18,12 +17,12 @@ use Rattle.float_order.proofs.PartWidth.{at-most-four-values}
 use Rattle.float_order.proofs.Intervals.{in-finite}
 use Rattle.key_hash.specs.Key.{keyOf, hashOf, Parts}
 use Rattle.key_hash.proofs.Keys.{part-below, key-rises, key-parts as image-parts}
-use Rattle.key_list.specs.Steps.{Narrow, Holds}
-use Rattle.pattern_keys.specs.Steps.{HashesOf, Hashed, AllParts}
+use Rattle.key_list.specs.Steps.{Narrow}
 use Rattle.pattern_keys.specs.Ranges.{lowerOf, upperOf, keysFor}
 use Rattle.key_list.specs.Listed.{Has, here, there, Listed, Precedes, Ordered, ordered}
 use Rattle.pattern_keys.specs.Claims.{KeysCount, ImageListed, ImageFirst, KeyListed, ListedParts}
 use Rattle.key_list.proofs.Laws.{keys-length, has-some}
+use Rattle.pattern_keys.proofs.Walks.{listed-small}
 use Rattle.key_list.proofs.Exact.{keys-all, keys-only}
 use Rattle.key_list.proofs.Near.{has-at}
 use Rattle.key_list.proofs.Outward.{keys-ordered, none-before}
@@ -70,6 +69,19 @@ ranges-narrow r e B i t =
       fifth = range-narrow (getD r 4 nan) e B (i .fifth) t;
     }
 
+-- none has a part above bins
+pub upper-parts : (r : List Float) (e : Float) (B : ℕ) → Ratios r → NarrowTolerance e B → Parts (upperOf r e B) B
+unfolding upperOf
+upper-parts r e B i t =
+    record {
+      few = t .few-bins;
+      first = high-bound (getD r 0 nan) e B (i .first) t;
+      second = high-bound (getD r 1 nan) e B (i .second) t;
+      third = high-bound (getD r 2 nan) e B (i .third) t;
+      fourth = high-bound (getD r 3 nan) e B (i .fourth) t;
+      fifth = high-bound (getD r 4 nan) e B (i .fifth) t;
+    }
+
 pub image-in-ranges : (r : List Float) (e : Float) (B : ℕ) → Ratios r → NarrowTolerance e B → Listed (lowerOf r e B) (upperOf r e B) (keyOf r B)
 unfolding keyOf lowerOf upperOf
 image-in-ranges r e B i t =
@@ -112,36 +124,5 @@ pub key-listed : KeyListed
 unfolding keysFor
 key-listed r e B i h = keys-only (keyOf r B) (lowerOf r e B) (upperOf r e B) (getD (keysFor r e B) i []) (has-at (keysFor r e B) i h)
 
-parts-of : (r : List Float) (e : Float) (B : ℕ) → Ratios r → NarrowTolerance e B → (k : List ℕ) → Listed (lowerOf r e B) (upperOf r e B) k → Parts k B
-unfolding lowerOf upperOf
-parts-of r e B i t k l =
-    subst (λ (y : List ℕ). Parts y B) (sym (l .is))
-    (record {
-      few = t .few-bins;
-      first = le-trans (l .first .1) (high-bound (getD r 0 nan) e B (i .first) t);
-      second = le-trans (l .second .1) (high-bound (getD r 1 nan) e B (i .second) t);
-      third = le-trans (l .third .1) (high-bound (getD r 2 nan) e B (i .third) t);
-      fourth = le-trans (l .fourth .1) (high-bound (getD r 3 nan) e B (i .fourth) t);
-      fifth = le-trans (l .fifth .1) (high-bound (getD r 4 nan) e B (i .fifth) t);
-    })
-
 pub listed-parts : ListedParts
-listed-parts r e B i t j h = parts-of r e B i t (getD (keysFor r e B) j []) (key-listed r e B j h)
-
--- ---- what the code asks of the image key, and of the listed keys
-pub image-small : (r : List Float) (B : ℕ) (k : List ℕ) → Ratios r → 0 < B → B ≤ 4096 → k ≡ keyOf r B
-    → (getD k 0 0 ≤ 4096) × (getD k 1 0 ≤ 4096) × (getD k 2 0 ≤ 4096) × (getD k 3 0 ≤ 4096) × (getD k 4 0 ≤ 4096)
-image-small r B k i p l e = let h = subst (λ (y : List ℕ). Parts y B) (sym e) (image-parts r B i p l) in (le-trans (h .first) l, le-trans (h .second) l, le-trans (h .third) l, le-trans (h .fourth) l, le-trans (h .fifth) l)
-
-at-front : (a : List (List ℕ)) (n : ℕ) (l : List (List ℕ)) (i : ℕ) → Holds a n l → i < n → getD a i [] ≡ getD l i []
-at-front a n l i h k = sym (getD-take n a i [] k) ∙ ap (λ (y : List (List ℕ)). getD y i []) (h .front)
-
-pub held-parts : (r : List Float) (e : Float) (B : ℕ) (a : List (List ℕ)) (n : ℕ) → Ratios r → NarrowTolerance e B → Holds a n (keysFor r e B) → AllParts a n B
-held-parts r e B a n i t h =
-    record {
-      each = λ j k. subst (λ (y : List ℕ). Parts y B) (sym (at-front a n (keysFor r e B) j h k)) (listed-parts r e B i t j (omega (arith, h .count)));
-    }
-
-pub held-hashes : (a : List (List ℕ)) (n : ℕ) (l : List (List ℕ)) (B : ℕ) (out : List ℕ) → Holds a n l → HashesOf B a n out → Hashed out n l B
-held-hashes a n l B out h f =
-    record { count = h .count; each = λ i k. f .each i k ∙ ap (λ (y : List ℕ). hashOf y B) (at-front a n l i h k); long = f .wide }
+listed-parts r e B i t j h = listed-small (lowerOf r e B) (upperOf r e B) (getD (keysFor r e B) j []) B (key-listed r e B j h) (upper-parts r e B i t)

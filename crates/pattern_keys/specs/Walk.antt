@@ -1,0 +1,33 @@
+-- The keys in the ranges as one nested walk over their parts, and what its steps ensure of one another. Definitions only.
+use mathlib.Core.Path.{_≡_}
+use Prim.Native.Nat.{ℕ, _+_, _<_}
+use mathlib.Core.List.{List, []}
+use lib.ListN.{length, getD}
+use Rattle.key_hash.specs.Key.{hashOf}
+use Rattle.key_list.specs.Keys.{flat, spread, far}
+
+-- the keys that k is with a part set to each value of its range that is not below the part before it, and all parts after that one too
+unfoldable pub fifth : List ℕ → List ℕ → List ℕ → List (List ℕ)
+fifth lo hi k = spread 3 4 (getD lo 4 0) (getD hi 4 0) k
+
+unfoldable pub fourth : List ℕ → List ℕ → List ℕ → List (List ℕ)
+fourth lo hi k = flat (fifth lo hi) (spread 2 3 (getD lo 3 0) (getD hi 3 0) k)
+
+unfoldable pub third : List ℕ → List ℕ → List ℕ → List (List ℕ)
+third lo hi k = flat (fourth lo hi) (spread 1 2 (getD lo 2 0) (getD hi 2 0) k)
+
+unfoldable pub second : List ℕ → List ℕ → List ℕ → List (List ℕ)
+second lo hi k = flat (third lo hi) (spread 0 1 (getD lo 1 0) (getD hi 1 0) k)
+
+unfoldable pub first : List ℕ → List ℕ → List ℕ → List (List ℕ)
+first lo hi k = flat (second lo hi) (spread 0 0 (getD lo 0 0) (getD hi 0 0) k)
+
+-- the arrays had the hashes and the distances of m keys; now they have those of l behind them, r in all
+pub record Walked (c : List ℕ) (B : ℕ) (hash dist hash′ dist′ : List ℕ) (m r : ℕ) (l : List (List ℕ)) : Type 0 where
+  pub count : r ≡ m + length l
+  pub hash-before : (i : ℕ) → i < m → getD hash′ i 0 ≡ getD hash i 0
+  pub dist-before : (i : ℕ) → i < m → getD dist′ i 0 ≡ getD dist i 0
+  pub hash-of : (i : ℕ) → i < length l → getD hash′ (m + i) 0 ≡ hashOf (getD l i []) B
+  pub dist-of : (i : ℕ) → i < length l → getD dist′ (m + i) 0 ≡ far c (getD l i [])
+  pub wide : length hash′ ≡ 1024
+  pub long : length dist′ ≡ 1024
