@@ -19,7 +19,7 @@ use Rattle.undivided_run.specs.declared.Status.the-variants.{TooFew, NoMatch, T
 use Rattle.undivided_run.specs.declared.Next.{Next}
 use Rattle.undivided_run.specs.declared.Next.the-variants.{Goes, Ends}
 use Rattle.undivided_run.specs.Undivided.{Feed, reached, isZero, cases}
-use Rattle.undivided_run.specs.Moves.{firstRead}
+use Rattle.undivided_run.specs.Moves.{firstOf}
 use Rattle.undivided_run.specs.Step.{toPass}
 use Rattle.undivided_run.proofs.Steps.{zero-is, zero-not, from, from-end, from-timeout, from-few, from-off, from-open, from-none}
 use Rattle.search_feed.specs.Data.{Frame, dataOf}
@@ -27,7 +27,7 @@ use Rattle.search_feed.specs.Image.{keptPlaces}
 use Rattle.search_feed.specs.Feed.{feed}
 use Rattle.search_steps.specs.Steps.{beginOf}
 use Rattle.search_steps.specs.declared.after.Begin.{Begin}
-use Rattle.search_steps.specs.declared.after.Begin.the-variants.{Opens, Over}
+use Rattle.search_steps.specs.declared.after.Begin.the-variants.{First, Over}
 
 -- ---- what a pass begins with
 module _ (n slots patterns : ℕ) where
@@ -46,7 +46,7 @@ module _ (n slots patterns : ℕ) where
       begin-no-pattern p = rw (le-ltb _ _ h, zero-not _ z, zero-is _ p)
 
       module _ (p : patterns ≡ 0 → ⊥) (m : MaybeFour) (e : maybeOf m ≡ firstFour n) where
-        pub begin-open : (q : Four) → m ≡ Following q → Opens q ≡ beginOf n slots patterns
+        pub begin-open : (q : Four) → m ≡ Following q → First q ≡ beginOf n slots patterns
         unfolding beginOf cases
         begin-open q f = rw (le-ltb _ _ h, zero-not _ z, zero-not _ p, ← e, f)
 
@@ -60,13 +60,13 @@ module _ {E C : Type 0} (F : Feed E C) (cap : Cap) (tried i : ℕ) (s : Status) 
   off = isZero (F .slots) || isZero (F .patterns)
 
   abbrev begun : Bool → Bool → Option Four → Begin
-  begun x z m = cond x (Over TooFew) (cond z (Over NoMatch) (cases m (Over NoMatch) Opens))
+  begun x z m = cond x (Over TooFew) (cond z (Over NoMatch) (cases m (Over NoMatch) First))
 
-  passes-open : (q : Four) → g ≡ Opens q → from F cap tried i s ≡ Goes (firstRead i q)
+  passes-open : (q : Four) → g ≡ First q → from F cap tried i s ≡ Goes (firstOf i q)
   unfolding beginOf cases
   passes-open q o = by (ltb k 4) refl off refl (firstFour k) refl (sym o ∙ ge)
     where
-      by : (x : Bool) → ltb k 4 ≡ x → (z : Bool) → off ≡ z → (m : Option Four) → firstFour k ≡ m → Opens q ≡ begun x z m → from F cap tried i s ≡ Goes (firstRead i q)
+      by : (x : Bool) → ltb k 4 ≡ x → (z : Bool) → off ≡ z → (m : Option Four) → firstFour k ≡ m → First q ≡ begun x z m → from F cap tried i s ≡ Goes (firstOf i q)
       by true xe z ze m me w = absurd (let u : _≡_ {A = ℕ} 0 1 = cc in omega arith)
       by false xe true ze m me w = absurd (let u : _≡_ {A = ℕ} 0 1 = cc in omega arith)
       by false xe false ze none me w = absurd (let u : _≡_ {A = ℕ} 0 1 = cc in omega arith)
@@ -98,7 +98,7 @@ module _ (fr : Frame) (slots : ℕ) (w e : List ℕ) (x : List Float) (cap : Cap
     passes-timeout f = from-timeout (feed (dataOf fr slots w e x)) cap tried i s h b be f
 
     module _ (f : b ≡ false) (k : ℕ) (ke : k ≡ length (keptPlaces fr i)) (g : Begin) (ge : g ≡ beginOf k slots (fr .config .patterns)) where
-      pub passes-first : (q : Four) → g ≡ Opens q → on i s ≡ Goes (firstRead i q)
+      pub passes-first : (q : Four) → g ≡ First q → on i s ≡ Goes (firstOf i q)
       unfolding feed
       passes-first q o = passes-open (feed (dataOf fr slots w e x)) cap tried i s h b be f k ke g ge q o
 

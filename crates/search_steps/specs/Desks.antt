@@ -12,7 +12,7 @@ use Rattle.search_feed.specs.Desk.{PassDesk, FourDesk, ForPass}
 use Rattle.search_feed.specs.declared.Held.{Held}
 
 -- a desk after a step: it holds what it says, and whatever array held the combination's hashes does so still
-pub record Kept (F : Frame) (before after : Held) (places : List ℕ) (dirs : List (List Float)) : Type 0 where
+pub record DeskAfter (F : Frame) (before after : Held) (places : List ℕ) (dirs : List (List Float)) : Type 0 where
   pub pass : PassDesk F after places dirs
   pub four : (l : List ℕ) → FourDesk F before l → FourDesk F after l
 

@@ -10,13 +10,13 @@ use Rattle.undivided_run.specs.declared.Status.the-variants.{TooFew, NoMatch}
 use Rattle.undivided_run.specs.Undivided.{Feed, isZero, cases}
 use Rattle.undivided_run.specs.Step.{bump, nextRead}
 use Rattle.search_steps.specs.declared.after.Begin.{Begin}
-use Rattle.search_steps.specs.declared.after.Begin.the-variants.{Opens, Over}
+use Rattle.search_steps.specs.declared.after.Begin.the-variants.{First, Over}
 
 -- what a pass begins with
 unfoldable pub beginOf : ℕ → ℕ → ℕ → Begin
 beginOf n slots patterns =
     cond (ltb n 4) (Over TooFew)
-    (cond (isZero slots || isZero patterns) (Over NoMatch) (cases (firstFour n) (Over NoMatch) Opens))
+    (cond (isZero slots || isZero patterns) (Over NoMatch) (cases (firstFour n) (Over NoMatch) First))
 
 -- the walk after a read
 abbrev pub steppedOf : {E C : Type 0} → Feed E C → Cap → Walk → Position → Walk

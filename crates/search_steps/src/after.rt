@@ -11,7 +11,7 @@ ghost use Rattle.search_feed.specs.Feed.{feed};
 ghost use Rattle.search_feed.specs.Desk.{PassDesk};
 ghost use Rattle.search_feed.specs.Claims.{Asked5};
 ghost use Rattle.search_steps.specs.Steps.{beginOf};
-ghost use Rattle.search_steps.specs.Desks.{Kept, AtRead};
+ghost use Rattle.search_steps.specs.Desks.{DeskAfter, AtRead};
 use crate::Reached;
 use combinations::Four;
 use combinations::MaybeFour;
@@ -23,7 +23,7 @@ use undivided_run::Status;
 
 // What a pass begins with: its first combination, or its status where it has no read.
 pub enum Begin {
-    Opens(Four),
+    First(Four),
     Over(Status),
 }
 
@@ -41,7 +41,7 @@ fn begin_pass(kept: u32, slots: u64, patterns: u64) -> Begin
         return Begin::Over(Status::NoMatch);
     }
     match combinations::first_four(kept) {
-        MaybeFour::Next(q) => Begin::Opens(q),
+        MaybeFour::Next(q) => Begin::First(q),
         MaybeFour::Nothing => Begin::Over(Status::NoMatch),
     }
 }
@@ -62,7 +62,7 @@ pub fn to_pass(
 ) -> Reached
     requires { ⌜ Asked5 (frameOf (now centroids) (now order) config (now passes)) × PassDesk (frameOf (now centroids) (now order) config (now passes)) held (now places) (now dirs) × (from ≤ length (now passes) / 3) ⌝ }
     ensures { λ r. ⌜ ((w p : List ℕ) (s : List Float) → r .next ≡ toPass (feed (dataOf (frameOf (now (centroids .entry)) (now (order .entry)) config (now (passes .entry))) slots w p s)) (config .cap) (length (now (passes .entry)) / 3 - from) from status tried) ⌝ }
-    ensures { λ r. ⌜ Kept (frameOf (now (centroids .entry)) (now (order .entry)) config (now (passes .entry))) held (r .held) (now (places .exit)) (now (dirs .exit)) ⌝ }
+    ensures { λ r. ⌜ DeskAfter (frameOf (now (centroids .entry)) (now (order .entry)) config (now (passes .entry))) held (r .held) (now (places .exit)) (now (dirs .exit)) ⌝ }
 {
     let n = (passes.len() / 3) as u32;
     let cap = config.cap;
@@ -79,7 +79,7 @@ pub fn to_pass(
         let laid = search_feed::lay_pass(centroids, order, config, passes, desk, i, places, dirs);
         desk = laid;
         match begin_pass(laid.kept, slots, config.patterns) {
-            Begin::Opens(q) => {
+            Begin::First(q) => {
                 return Reached {
                     next: Next::Goes(Position::first_of(i, q)),
                     held: laid,
@@ -112,7 +112,7 @@ fn after_four(
 ) -> Reached
     requires { ⌜ Asked5 (frameOf (now centroids) (now order) config (now passes)) × AtRead (frameOf (now centroids) (now order) config (now passes)) slots held p (now places) (now dirs) ⌝ }
     ensures { λ r. ⌜ ((w e : List ℕ) (s : List Float) → r .next ≡ afterFour (feed (dataOf (frameOf (now (centroids .entry)) (now (order .entry)) config (now (passes .entry))) slots w e s)) (config .cap) (p .pass) (p .four) tried) ⌝ }
-    ensures { λ r. ⌜ Kept (frameOf (now (centroids .entry)) (now (order .entry)) config (now (passes .entry))) held (r .held) (now (places .exit)) (now (dirs .exit)) ⌝ }
+    ensures { λ r. ⌜ DeskAfter (frameOf (now (centroids .entry)) (now (order .entry)) config (now (passes .entry))) held (r .held) (now (places .exit)) (now (dirs .exit)) ⌝ }
 {
     let four = p.four;
     match combinations::next_four(held.kept, four) {
@@ -154,7 +154,7 @@ fn after_key(
 ) -> Reached
     requires { ⌜ Asked5 (frameOf (now centroids) (now order) config (now passes)) × AtRead (frameOf (now centroids) (now order) config (now passes)) slots held p (now places) (now dirs) ⌝ }
     ensures { λ r. ⌜ ((w e : List ℕ) (s : List Float) → r .next ≡ afterKey (feed (dataOf (frameOf (now (centroids .entry)) (now (order .entry)) config (now (passes .entry))) slots w e s)) (config .cap) (p .pass) (p .four) (p .key) tried) ⌝ }
-    ensures { λ r. ⌜ Kept (frameOf (now (centroids .entry)) (now (order .entry)) config (now (passes .entry))) held (r .held) (now (places .exit)) (now (dirs .exit)) ⌝ }
+    ensures { λ r. ⌜ DeskAfter (frameOf (now (centroids .entry)) (now (order .entry)) config (now (passes .entry))) held (r .held) (now (places .exit)) (now (dirs .exit)) ⌝ }
 {
     if p.key + 1 < held.keys {
         return Reached {
@@ -192,7 +192,7 @@ pub fn after(
 ) -> Reached
     requires { ⌜ Asked5 (frameOf (now centroids) (now order) config (now passes)) × AtRead (frameOf (now centroids) (now order) config (now passes)) slots held p (now places) (now dirs) ⌝ }
     ensures { λ r. ⌜ ((w e : List ℕ) (s : List Float) → full ≡ filled (feed (dataOf (frameOf (now (centroids .entry)) (now (order .entry)) config (now (passes .entry))) slots w e s)) p → r .next ≡ nextRead (feed (dataOf (frameOf (now (centroids .entry)) (now (order .entry)) config (now (passes .entry))) slots w e s)) (config .cap) p tried) ⌝ }
-    ensures { λ r. ⌜ Kept (frameOf (now (centroids .entry)) (now (order .entry)) config (now (passes .entry))) held (r .held) (now (places .exit)) (now (dirs .exit)) ⌝ }
+    ensures { λ r. ⌜ DeskAfter (frameOf (now (centroids .entry)) (now (order .entry)) config (now (passes .entry))) held (r .held) (now (places .exit)) (now (dirs .exit)) ⌝ }
 {
     if full {
         if ((p.probe + 1) as u64) < slots {

@@ -12,7 +12,7 @@ ghost use Rattle.search_feed.specs.Image.{keptPlaces};
 ghost use Rattle.search_feed.specs.Feed.{feed};
 ghost use Rattle.search_feed.specs.Desk.{PassDesk, FourDesk, ForPass, ForFour};
 ghost use Rattle.search_feed.specs.Claims.{Asked5};
-ghost use Rattle.search_steps.specs.Desks.{Kept, AtRead};
+ghost use Rattle.search_steps.specs.Desks.{DeskAfter, AtRead};
 ghost use Rattle.search_steps.specs.Steps.{steppedOf};
 use crate::Reached;
 use crate::Stepped;
@@ -63,7 +63,7 @@ pub fn step(
 ) -> Stepped
     requires { ⌜ Asked5 (frameOf (now centroids) (now order) config (now passes)) × AtRead (frameOf (now centroids) (now order) config (now passes)) slots held p (now places) (now dirs) × (walk .patterns < 9223372036854775808) × (walk .reads < 9223372036854775808) ⌝ }
     ensures { λ r. ⌜ ((w e : List ℕ) (s : List Float) → full ≡ filled (feed (dataOf (frameOf (now (centroids .entry)) (now (order .entry)) config (now (passes .entry))) slots w e s)) p → r .walk ≡ steppedOf (feed (dataOf (frameOf (now (centroids .entry)) (now (order .entry)) config (now (passes .entry))) slots w e s)) (config .cap) walk p) ⌝ }
-    ensures { λ r. ⌜ Kept (frameOf (now (centroids .entry)) (now (order .entry)) config (now (passes .entry))) held (r .held) (now (places .exit)) (now (dirs .exit)) ⌝ }
+    ensures { λ r. ⌜ DeskAfter (frameOf (now (centroids .entry)) (now (order .entry)) config (now (passes .entry))) held (r .held) (now (places .exit)) (now (dirs .exit)) ⌝ }
 {
     let n = p.count(walk.patterns);
     let reached = after(
@@ -106,7 +106,7 @@ pub fn begin(
 ) -> Reached
     requires { ⌜ Asked5 (frameOf (now centroids) (now order) config (now passes)) × PassDesk (frameOf (now centroids) (now order) config (now passes)) held (now places) (now dirs) ⌝ }
     ensures { λ r. ⌜ ((w e : List ℕ) (s : List Float) → r .next ≡ look (firstRead (feed (dataOf (frameOf (now (centroids .entry)) (now (order .entry)) config (now (passes .entry))) slots w e s)) (config .cap)) (st .phase)) ⌝ }
-    ensures { λ r. ⌜ Kept (frameOf (now (centroids .entry)) (now (order .entry)) config (now (passes .entry))) held (r .held) (now (places .exit)) (now (dirs .exit)) ⌝ }
+    ensures { λ r. ⌜ DeskAfter (frameOf (now (centroids .entry)) (now (order .entry)) config (now (passes .entry))) held (r .held) (now (places .exit)) (now (dirs .exit)) ⌝ }
 {
     let phase = st.phase;
     match phase {

@@ -13,7 +13,7 @@ use Rattle.combinations.specs.declared.MaybeFour.{MaybeFour}
 use Rattle.combinations.specs.declared.MaybeFour.the-variants.{Next as Following, Nothing}
 use Rattle.undivided_run.specs.Undivided.{Status, TooFew, NoMatch, Timeout, Read, Feed, Cap, reached, isZero, cases, filled, starts}
 use Rattle.undivided_run.specs.Step.{Next, goes, ends, bump, toFour, toPass, afterFour, afterKey, nextRead}
-use Rattle.undivided_run.specs.Moves.{firstRead, probed, keyed, fourNext}
+use Rattle.undivided_run.specs.Moves.{firstOf, probed, keyed, fourNext}
 
 pub zero-not : (x : ℕ) → (x ≡ 0 → ⊥) → isZero x ≡ false
 unfolding isZero
@@ -64,7 +64,7 @@ module _ {E C : Type 0} (F : Feed E C) (cap : Cap) (tried : ℕ) where
         from-off z = sym (from-at ∙ rw (← e, f, ← ke, le-ltb k 4 l, z, add-one))
 
         module _ (z : isZero (F .slots) || isZero (F .patterns) ≡ false) (m : MaybeFour) (me : maybeOf m ≡ firstFour k) where
-          pub from-open : (q : Four) → m ≡ Following q → from i s ≡ goes (firstRead i q)
+          pub from-open : (q : Four) → m ≡ Following q → from i s ≡ goes (firstOf i q)
           unfolding toFour cases
           from-open q o = from-at ∙ rw (← e, f, ← ke, le-ltb k 4 l, z, ← me, o)
 

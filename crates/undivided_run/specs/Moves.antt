@@ -6,8 +6,8 @@ use Rattle.undivided_run.specs.Undivided.{Timeout, Read, Cap, reached}
 use Rattle.undivided_run.specs.Step.{Next, goes, ends}
 
 -- the first read of a combination
-abbrev pub firstRead : ℕ → Four → Read
-firstRead i q = record { pass = i; four = q; key = 0; probe = 0 }
+abbrev pub firstOf : ℕ → Four → Read
+firstOf i q = record { pass = i; four = q; key = 0; probe = 0 }
 
 -- the next probe of the same key
 abbrev pub probed : Read → Read
@@ -19,4 +19,4 @@ keyed r = record { pass = r .pass; four = r .four; key = r .key + 1; probe = 0 }
 
 -- the first read of a combination, the cap asked before it
 abbrev pub fourNext : Cap → ℕ → ℕ → Four → Next
-fourNext cap tried i q = cond (reached cap tried) (ends Timeout) (goes (firstRead i q))
+fourNext cap tried i q = cond (reached cap tried) (ends Timeout) (goes (firstOf i q))

@@ -4,7 +4,7 @@ ghost use mathlib.Core.Path.{_≡_};
 ghost use Prim.Native.Nat.{_<_};
 ghost use Rattle.undivided_run.specs.Undivided.{reached};
 ghost use Rattle.undivided_run.specs.Step.{bump, settle};
-ghost use Rattle.undivided_run.specs.Moves.{firstRead, probed, keyed, fourNext};
+ghost use Rattle.undivided_run.specs.Moves.{firstOf, probed, keyed, fourNext};
 use combinations::Four;
 
 // How a run ends.
@@ -80,7 +80,7 @@ impl Cap {
 impl Position {
     // The first read of a combination.
     pub fn first_of(pass: u32, four: Four) -> Position
-        ensures { λ r. ⌜ r ≡ firstRead pass four ⌝ }
+        ensures { λ r. ⌜ r ≡ firstOf pass four ⌝ }
     {
         Position {
             pass,
