@@ -5,10 +5,11 @@
  * C library it needs memset alone. The header is C11, and C++11 or later.
  *
  * How a host works with it
- *   1. Once for each table: star_open. Where it answers 0, no list of calls from a fresh state on this table is refused under 6 to 9.
- *   2. For each frame: start from a fresh state (all zero) and call star_search with an allowance of table reads, handing each
- *      call the state that the last one gave back, until the answer is STAR_ENDED. However the reads are divided into calls,
- *      the candidates, their order and the counts are the same.
+ *   1. Once for each table: star_open. Where it answers 0, a list of calls from a fresh state that are all lent this table and the
+ *      same frame and settings is never refused under 6 to 9.
+ *   2. For each frame: start from a fresh state (all zero) and call star_search with an allowance of table reads above 0, handing
+ *      each call the state that the last one gave back, until the answer is STAR_ENDED (or STAR_REFUSED: the same call would be
+ *      refused again). However the reads are divided into calls, the candidates, their order and the counts are the same.
  *   3. For each candidate: star_complete gives four image vectors beside four star vectors, for the host's own solver.
  *   star_sweep lists fields of view to make passes of; star_slot and star_entry read one slot of the table.
  *
@@ -34,15 +35,18 @@
  *    2  each coordinate is finite and of magnitude at most 32,768
  *    3  each index of the brightness list is below the number of centroids, and none is there twice
  *    4  bins 1 to 4,096; checking 0 to 64; error from 0 to 1; radius finite and not negative; options that are given finite;
- *       and the tolerance times bins at most 1.25
- *    5  1 to 256 whole passes; field above 0 and below pi, scale above 0 and at most 16, cosine from -1 to 1
+ *       and e * bins (an f32 product) at most 1.25, where e is the larger of error and matching, but at most the larger of
+ *       8 / bins and error
+ *    5  1 to 256 whole passes; field above 0 and below the f32 pi (bits 40490FDB), scale above 0 and at most 16, cosine from -1 to 1
  *    6  at most 2^24 slots, and exactly 8 words for each begun block of 448 slots
  *    7  the number of star components is a multiple of 3 and at most 3 * 2^20
- *    8  the state is fresh, ended, or at numbers that exist in this frame and table, with counts in their limits
- *    9  the entry read lies inside the packed section, its stars inside the star array, each component finite and at most 1
+ *    8  the state is fresh, ended, or at numbers that exist in this frame and table, with at most 162,656,256 patterns
+ *       and 2^62 reads
+ *    9  the entry read lies inside the packed section, its stars inside the star array, each component finite and of
+ *       magnitude at most 1
  *   10  every rank is the ones before its block, no bit past the last slot is set, the section has 22 bytes for each one
  *   11  the slot is below the slot count
- *   12  estimate above 0 and below pi, step finite and above 0, error finite or absent
+ *   12  estimate above 0 and below the f32 pi, step finite and above 0, error finite or absent
  *   13  the list of fields fits the lent array
  *   14  the pass exists, the four places rise below the brightness list's length, the scale is above 0 and at most 16
  *   star_search asks 1 to 8 in order, and 9 at every filled slot it reads; star_open 6, 7, 10, then 9 over all filled slots;
@@ -70,8 +74,9 @@ enum {
 
 /* StarState.status of an ended state, and StarAnswer.number of the answer STAR_ENDED. Any other number in an ended state is refused with 8. */
 enum {
-    STAR_TOO_FEW = 0,      /* fewer than 4 spots were kept */
-    STAR_NO_MATCH = 1,     /* all was read */
+    STAR_TOO_FEW = 0,      /* the last pass kept fewer than 4 spots; earlier passes may have been read */
+    STAR_NO_MATCH = 1,     /* the last pass kept 4 or more, and no read is left (with no slots or a pattern count of 0 there was none);
+                              candidates may have been given before */
     STAR_TIMEOUT = 2       /* the cap on combinations was reached */
 };
 
@@ -131,7 +136,8 @@ typedef struct StarSettings {
 typedef struct StarCandidate {
     uint64_t slot;         /* the slot that gave it */
     uint32_t pass;         /* the pass, from 0 */
-    uint32_t place[4];     /* the four spots, as rising places in the brightness list */
+    uint32_t place[4];     /* the four spots, as rising places in the brightness list: place p is centroid order[p]. place[i] is NOT the
+                              spot of star[i]: star_complete brings them into matched order */
     uint32_t star[4];      /* the four stars, in the entry's order: star i has its direction at stars[3 * i] .. stars[3 * i + 2] */
     float field;           /* the measured field of view, in radians */
     uint32_t rebuild;      /* 1: the measured field differs so much that star_complete takes the scale it is given; 0: the pass's own.
@@ -193,7 +199,9 @@ typedef struct StarCompleted {
  * The frame, lent to star_search and star_complete:
  *   centroids  x, y of each spot in pixels from the image's centre; centroids_length counts floats
  *   order      the brightness list: indices of centroids, brightest first; it may be shorter than the centroids
- *   passes     for each pass its field of view in radians, pixel scale and cosine of the separation; passes_length counts floats
+ *   passes     for each pass its field of view in radians, pixel scale and cosine of the separation; passes_length counts floats.
+ *              A spot's direction is (x * scale, y * scale, 1) divided by its norm; a spot is kept where no earlier kept one has a
+ *              dot product with it above the cosine
  */
 
 /* The opening check: 0 where the table passes, else the number of the question that refuses it. */
@@ -228,7 +236,8 @@ StarPart star_entry(uint64_t slots,
                     uint64_t slot);
 
 /* The fields of view to try around an estimate, all in radians: the estimate, then estimate + offset and, if above 0,
- * estimate - offset, for offsets a step apart up to the error. They are written to `out` from its start, and nothing after them.
+ * estimate - offset, for offsets a step apart up to the error; the list ends where estimate + offset reaches the f32 pi, and is the
+ * estimate alone where the error is absent or not above 0. They are written to `out` from its start, and nothing after them.
  * error_given: 1: `error` is given; 0: there is none; any other number is refused with 12. */
 StarSwept star_sweep(float estimate, uint32_t error_given, float error, float step,
                      float *out, size_t out_length);
