@@ -1,14 +1,4 @@
-// The C structs of include/star_search.h, and what their numbers mean: what is received as the library's own types, and what is handed over.
-mod handed;
-mod received;
-
-pub use crate::handed::answer_of;
-pub use crate::handed::completed_numbers;
-pub use crate::handed::swept_numbers;
-pub use crate::received::candidate_of;
-pub use crate::received::config_of;
-pub use crate::received::option_of;
-pub use crate::received::state_of;
+// The C structs of include/star_search.h: plain numbers, as a host in C lays them out.
 
 // Where a search stands. phase: 0 fresh, 1 at its next read, 2 ended; status: 0 too few, 1 no match, 2 timeout.
 #[repr(C)]

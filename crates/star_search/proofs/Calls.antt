@@ -11,8 +11,8 @@ use Rattle.search_feed.specs.Data.{Data}
 use Rattle.pattern_search.specs.Answers.{said, shown, searched, searchedSays}
 use Rattle.pattern_search.specs.Listed.{Given, lentBy, returned, answersOf, replies, lastState}
 use Rattle.pattern_search.proofs.Listed.{listed}
-use Rattle.star_numbers.specs.Received.{stateOf}
-use Rattle.star_numbers.specs.Handed.{answerOf}
+use Rattle.numbers_received.specs.Received.{stateOf}
+use Rattle.numbers_handed.specs.Handed.{answerOf}
 use Rattle.star_search.specs.Calls.{Call, givenBy, answered, answers, lastRaw, saidBy, numbersOf, SameCalls, ListedThroughC}
 use Rattle.star_numbers.specs.declared.StarState.{StarState}
 use Rattle.star_search.proofs.Tags.{state-back}

@@ -27,8 +27,8 @@ use Rattle.table_blocks.specs.Blocks.{tableFits}
 use Rattle.pattern_catalog.specs.Opening.{opening, indexRight, slotSound}
 use Rattle.pattern_catalog.specs.Answers.{Answer, filledAt, empty, refused}
 use Rattle.fov_sweep.specs.Sweep.{sweepFits}
-use Rattle.star_numbers.specs.Received.{optionOf, binsOf, configOf, positionOf, unknown, endedOf, stateOf}
-use Rattle.star_numbers.specs.Handed.{openedNumber, phaseNumbers}
+use Rattle.numbers_received.specs.Received.{optionOf, binsOf, configOf, positionOf, unknown, endedOf, stateOf}
+use Rattle.numbers_handed.specs.Handed.{openedNumber, phaseNumbers}
 use Rattle.star_search.specs.Claims.{ZeroPasses, StateBack, ZeroIsFresh, UnknownSettings, UnknownError, UnknownState, PartAsNumbers}
 
 -- ---- the opening check

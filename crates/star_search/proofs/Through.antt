@@ -12,8 +12,8 @@ use Rattle.pattern_search.specs.declared.Searched.{Searched}
 use Rattle.pattern_search.specs.Answers.{lentOf, searched}
 use Rattle.complete.specs.declared.Completed.{Completed}
 use Rattle.complete.specs.Completing.{completedOf}
-use Rattle.star_numbers.specs.Received.{configOf, stateOf, candidateOf}
-use Rattle.star_numbers.specs.Handed.{answerOf, completedNumbers}
+use Rattle.numbers_received.specs.Received.{configOf, stateOf, candidateOf}
+use Rattle.numbers_handed.specs.Handed.{answerOf, completedNumbers}
 use Rattle.star_numbers.specs.declared.StarSettings.{StarSettings}
 use Rattle.star_numbers.specs.declared.StarState.{StarState}
 use Rattle.star_numbers.specs.declared.StarCandidate.{StarCandidate}

@@ -9,8 +9,8 @@ use Rattle.undivided_run.specs.Step.{start}
 use Rattle.search_feed.specs.Data.{Data, frameOf, dataOf}
 use Rattle.search_feed.specs.Look.{noCandidate}
 use Rattle.pattern_search.specs.Listed.{Given, returned, answersOf, replies, lastState, AllSame, Opens, onRun}
-use Rattle.star_numbers.specs.Received.{configOf, stateOf}
-use Rattle.star_numbers.specs.Handed.{statusNumber, candidateNumbers, answerOf}
+use Rattle.numbers_received.specs.Received.{configOf, stateOf}
+use Rattle.numbers_handed.specs.Handed.{statusNumber, candidateNumbers, answerOf}
 use Rattle.star_numbers.specs.declared.StarSettings.{StarSettings}
 use Rattle.star_numbers.specs.declared.StarState.{StarState}
 use Rattle.star_numbers.specs.declared.StarCandidate.{StarCandidate}

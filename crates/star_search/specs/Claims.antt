@@ -17,8 +17,8 @@ use Rattle.pattern_catalog.specs.Answers.{Answer}
 use Rattle.pattern_catalog.specs.SlotRead.{partOf}
 use Rattle.pattern_catalog.specs.Opening.{opening}
 use Rattle.fov_sweep.specs.Sweep.{sweepFits}
-use Rattle.star_numbers.specs.Received.{optionOf, configOf, stateOf}
-use Rattle.star_numbers.specs.Handed.{openedNumber, plainNumbers, stateNumbers, partNumbers}
+use Rattle.numbers_received.specs.Received.{optionOf, configOf, stateOf}
+use Rattle.numbers_handed.specs.Handed.{openedNumber, plainNumbers, stateNumbers, partNumbers}
 use Rattle.star_numbers.specs.declared.StarSettings.{StarSettings}
 use Rattle.star_numbers.specs.declared.StarState.{StarState}
 

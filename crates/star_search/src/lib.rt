@@ -9,8 +9,8 @@ ghost use Rattle.pattern_catalog.specs.SlotRead.{slotRead};
 ghost use Rattle.pattern_catalog.specs.Opening.{opening};
 ghost use Rattle.fov_sweep.specs.Sweep.{sweptOf, laterOf};
 ghost use Rattle.complete.specs.Completing.{completedOf};
-ghost use Rattle.star_numbers.specs.Received.{optionOf, configOf, stateOf, candidateOf};
-ghost use Rattle.star_numbers.specs.Handed.{openedNumber, answerOf, slotNumbers, partNumbers, sweptNumbers, completedNumbers};
+ghost use Rattle.numbers_received.specs.Received.{optionOf, configOf, stateOf, candidateOf};
+ghost use Rattle.numbers_handed.specs.Handed.{openedNumber, answerOf, slotNumbers, partNumbers, sweptNumbers, completedNumbers};
 use pattern_catalog::Found;
 use pattern_catalog::Opened;
 use pattern_catalog::Slot;
@@ -50,8 +50,8 @@ pub extern "C" fn star_search(
 ) -> StarAnswer
     ensures { λ r. ⌜ r ≡ answerOf state (searched (searchCall (stateOf state) (lentOf (dataOf (frameOf (now (centroids .entry)) (now (order .entry)) (configOf settings) (now (passes .entry))) slots (now (words .entry)) (now (packed .entry)) (now (stars .entry))) allowance))) ⌝ }
 {
-    let config = star_numbers::config_of(settings);
-    let from = star_numbers::state_of(state);
+    let config = numbers_received::config_of(settings);
+    let from = numbers_received::state_of(state);
     let said = pattern_search::search(
         centroids,
         order,
@@ -64,7 +64,7 @@ pub extern "C" fn star_search(
         from,
         allowance,
     );
-    star_numbers::answer_of(state, said)
+    numbers_handed::answer_of(state, said)
 }
 
 // What a slot holds.
@@ -120,9 +120,9 @@ pub extern "C" fn star_sweep(
 ) -> StarSwept
     ensures { λ r. ⌜ (r ≡ sweptNumbers (sweptOf estimate (optionOf «error_given» error) step (length (now (out .entry))))) × (now (out .exit) ≡ laterOf estimate (optionOf «error_given» error) step (now (out .entry))) ⌝ }
 {
-    let reach = star_numbers::option_of(error_given, error);
+    let reach = numbers_received::option_of(error_given, error);
     let swept = fov_sweep::build_fov_sweep(estimate, reach, step, out);
-    star_numbers::swept_numbers(swept)
+    numbers_handed::swept_numbers(swept)
 }
 
 // Completing a candidate.
@@ -137,7 +137,7 @@ pub extern "C" fn star_complete(
 ) -> StarCompleted
     ensures { λ r. ⌜ r ≡ completedNumbers (completedOf (now (centroids .entry)) (now (order .entry)) (now (passes .entry)) (now (stars .entry)) (candidateOf candidate) scale) ⌝ }
 {
-    let told = star_numbers::candidate_of(candidate);
+    let told = numbers_received::candidate_of(candidate);
     let completed = complete::complete(centroids, order, passes, stars, told, scale);
-    star_numbers::completed_numbers(completed)
+    numbers_handed::completed_numbers(completed)
 }

@@ -1,6 +1,6 @@
 use mathlib.Core.Path.{sym, ap, _∙_}
 use Rattle.pattern_catalog.specs.Answers.{openedSays}
-use Rattle.star_numbers.specs.Handed.{openedNumber}
+use Rattle.numbers_handed.specs.Handed.{openedNumber}
 use borrow.Author.Needs.{needs}
 use Rattle.star_search.proofs.star_open.Statement.{statement}
 use Rattle.star_search.proofs.star_open.Tie as tie

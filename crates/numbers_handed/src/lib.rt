@@ -1,0 +1,202 @@
+// What is handed over to a host in C: the library's answers as plain numbers, by the definitions that give document 01's numbers.
+ghost use mathlib.Core.Path.{_≡_};
+ghost use Rattle.numbers_handed.specs.Handed.{statusNumber, plainNumbers, atNumbers, stateNumbers, candidateNumbers, answerOf, sweptNumbers, vectorNumbers, fourVectors, completedNumbers};
+use candidates::Candidate;
+use complete::Completed;
+use complete::Completion;
+use complete::Row;
+use fov_sweep::Swept;
+use pattern_search::Answer;
+use pattern_search::Searched;
+use star_numbers::StarAnswer;
+use star_numbers::StarCandidate;
+use star_numbers::StarCompleted;
+use star_numbers::StarState;
+use star_numbers::StarSwept;
+use star_numbers::StarVector;
+use undivided_run::Phase;
+use undivided_run::Position;
+use undivided_run::State;
+use undivided_run::Status;
+
+// The number of a status.
+fn status_number(s: Status) -> u32
+    ensures { λ r. ⌜ r ≡ statusNumber s ⌝ }
+{
+    match s {
+        Status::TooFew => 0,
+        Status::NoMatch => 1,
+        Status::Timeout => 2,
+    }
+}
+
+// A state that names no read.
+fn plain_numbers(phase: u32, status: u32, patterns: u64, reads: u64) -> StarState
+    ensures { λ r. ⌜ r ≡ plainNumbers phase status patterns reads ⌝ }
+{
+    let four = [0u32; 4];
+    StarState {
+        phase,
+        status,
+        pass: 0,
+        four,
+        key: 0,
+        probe: 0,
+        reserved: 0,
+        patterns,
+        reads,
+    }
+}
+
+// A state at its next read.
+fn at_numbers(p: Position, patterns: u64, reads: u64) -> StarState
+    ensures { λ r. ⌜ r ≡ atNumbers p patterns reads ⌝ }
+{
+    let q = p.four;
+    let four = [q.a, q.b, q.c, q.d];
+    StarState {
+        phase: 1,
+        status: 0,
+        pass: p.pass,
+        four,
+        key: p.key,
+        probe: p.probe,
+        reserved: 0,
+        patterns,
+        reads,
+    }
+}
+
+// A state.
+fn state_numbers(s: State) -> StarState
+    ensures { λ r. ⌜ r ≡ stateNumbers s ⌝ }
+{
+    let phase = s.phase;
+    match phase {
+        Phase::Fresh => plain_numbers(0, 0, s.patterns, s.reads),
+        Phase::At(p) => at_numbers(p, s.patterns, s.reads),
+        Phase::Ended(t) => plain_numbers(2, status_number(t), s.patterns, s.reads),
+    }
+}
+
+// A candidate.
+fn candidate_numbers(c: Candidate) -> StarCandidate
+    ensures { λ r. ⌜ r ≡ candidateNumbers c ⌝ }
+{
+    let p = c.places;
+    let s = c.stars;
+    let place = [p[0].0, p[1].0, p[2].0, p[3].0];
+    let star = [s[0].0, s[1].0, s[2].0, s[3].0];
+    StarCandidate {
+        slot: c.slot,
+        pass: c.pass,
+        place,
+        star,
+        field: c.field,
+        rebuild: if c.rebuild { 1 } else { 0 },
+        reserved: 0,
+    }
+}
+
+// A call's answer; `raw` is the state received, which a refusal hands back as it came.
+pub fn answer_of(raw: StarState, r: Searched) -> StarAnswer
+    ensures { λ a. ⌜ a ≡ answerOf raw r ⌝ }
+{
+    let said = r.answer;
+    let c = r.candidate;
+    let s = r.state;
+    let candidate = candidate_numbers(c);
+    let state = state_numbers(s);
+    match said {
+        Answer::Candidate => StarAnswer {
+            answer: 0,
+            number: 0,
+            candidate,
+            state,
+        },
+        Answer::AllowanceUsed => StarAnswer {
+            answer: 1,
+            number: 0,
+            candidate,
+            state,
+        },
+        Answer::Ended(t) => StarAnswer {
+            answer: 2,
+            number: status_number(t),
+            candidate,
+            state,
+        },
+        Answer::Refused(n) => StarAnswer {
+            answer: 3,
+            number: n,
+            candidate,
+            state: raw,
+        },
+    }
+}
+
+// The sweep's answer.
+pub fn swept_numbers(s: Swept) -> StarSwept
+    ensures { λ r. ⌜ r ≡ sweptNumbers s ⌝ }
+{
+    match s {
+        Swept::Values(n) => StarSwept {
+            answer: 0,
+            number: 0,
+            count: n,
+        },
+        Swept::Refused(n) => StarSwept {
+            answer: 1,
+            number: n,
+            count: 0,
+        },
+    }
+}
+
+// A vector.
+fn vector_numbers(r: Row) -> StarVector
+    ensures { λ v. ⌜ v ≡ vectorNumbers r ⌝ }
+{
+    let c = r.c;
+    StarVector {
+        x: c[0],
+        y: c[1],
+        z: c[2],
+    }
+}
+
+// Four vectors.
+fn four_vectors(v: [Row; 4]) -> [StarVector; 4]
+    ensures { λ r. ⌜ r ≡ fourVectors v ⌝ }
+{
+    let a = vector_numbers(v[0]);
+    let b = vector_numbers(v[1]);
+    let c = vector_numbers(v[2]);
+    let d = vector_numbers(v[3]);
+    [a, b, c, d]
+}
+
+// Completing's answer.
+pub fn completed_numbers(c: Completed) -> StarCompleted
+    ensures { λ r. ⌜ r ≡ completedNumbers c ⌝ }
+{
+    let said = c.answer;
+    let v = c.image;
+    let w = c.stars;
+    let image = four_vectors(v);
+    let star = four_vectors(w);
+    match said {
+        Completion::Done => StarCompleted {
+            answer: 0,
+            number: 0,
+            image,
+            star,
+        },
+        Completion::Refused(n) => StarCompleted {
+            answer: 1,
+            number: n,
+            image,
+            star,
+        },
+    }
+}
