@@ -3,10 +3,10 @@ use stream::Desk;
 use stream::Record;
 use stream::Request;
 use stream::with_state;
-use stream_read::first_bytes;
-use stream_read::first_floats;
-use stream_read::first_longs;
-use stream_read::first_words;
+use stream_parts::first_bytes;
+use stream_parts::first_floats;
+use stream_parts::first_longs;
+use stream_parts::first_words;
 use telling::number;
 use telling::table_line;
 use telling::tell_call;
@@ -212,12 +212,12 @@ fn tell_records(
 
 // The stream that a descriptor gives.
 pub fn tell_stream(fd: i32) {
-    let mut table = stream_read::no_longs();
-    let mut packed = stream_read::no_bytes();
-    let mut stars = stream_read::no_stars();
-    let mut coords = stream_read::no_coords();
-    let mut places = stream_read::no_places();
-    let mut triples = stream_read::no_triples();
+    let mut table = stream_parts::no_longs();
+    let mut packed = stream_parts::no_bytes();
+    let mut stars = stream_parts::no_stars();
+    let mut coords = stream_parts::no_coords();
+    let mut places = stream_parts::no_places();
+    let mut triples = stream_parts::no_triples();
     tell_records(
         fd,
         &mut table,

@@ -14,10 +14,10 @@ use libc::STDIN_FILENO;
 use stream::Desk;
 use stream::Record;
 use stream::Request;
-use stream_read::first_bytes;
-use stream_read::first_floats;
-use stream_read::first_longs;
-use stream_read::first_words;
+use stream_parts::first_bytes;
+use stream_parts::first_floats;
+use stream_parts::first_longs;
+use stream_parts::first_words;
 
 // Whether the stream goes on after a record, and the desk after it.
 struct Answered {
@@ -151,12 +151,12 @@ fn replay(
 }
 
 fn main() {
-    let mut table = stream_read::no_longs();
-    let mut packed = stream_read::no_bytes();
-    let mut stars = stream_read::no_stars();
-    let mut coords = stream_read::no_coords();
-    let mut places = stream_read::no_places();
-    let mut triples = stream_read::no_triples();
+    let mut table = stream_parts::no_longs();
+    let mut packed = stream_parts::no_bytes();
+    let mut stars = stream_parts::no_stars();
+    let mut coords = stream_parts::no_coords();
+    let mut places = stream_parts::no_places();
+    let mut triples = stream_parts::no_triples();
     replay(
         &mut table,
         &mut packed,

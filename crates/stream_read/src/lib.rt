@@ -1,19 +1,6 @@
 // Numbers off a stream, little-endian. Each says whether the stream still had it; `fd` is the descriptor that it is read from.
-mod parts;
-mod room;
-
 ghost use mathlib.Core.Path.{_≡_};
 ghost use Prim.Native.Nat.{_+_, _*_};
-pub use crate::parts::first_bytes;
-pub use crate::parts::first_floats;
-pub use crate::parts::first_longs;
-pub use crate::parts::first_words;
-pub use crate::room::no_bytes;
-pub use crate::room::no_coords;
-pub use crate::room::no_longs;
-pub use crate::room::no_places;
-pub use crate::room::no_stars;
-pub use crate::room::no_triples;
 
 // A u32, where the stream still has its four bytes.
 pub struct Word {

@@ -1,8 +1,8 @@
 use borrow.Author.Needs.{needs}
 use native.Mathlib.Omega.{arith}
-use Rattle.stream_read.proofs.Lent.{first-in, first-beyond}
-use Rattle.stream_read.proofs.parts.first_longs.Statement.{statement}
-use Rattle.stream_read.proofs.parts.first_longs.Tie as tie
+use Rattle.stream_parts.proofs.Lent.{first-in, first-beyond}
+use Rattle.stream_parts.proofs.parts.first_longs.Statement.{statement}
+use Rattle.stream_parts.proofs.parts.first_longs.Tie as tie
 
 sub-result : tie.Need-sub-result
 sub-result c = search needs

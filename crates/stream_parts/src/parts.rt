@@ -1,6 +1,6 @@
 // The part of a lent slice that a record filled.
 ghost use mathlib.Core.Path.{_≡_};
-ghost use Rattle.stream_read.specs.Lent.{firstOf};
+ghost use Rattle.stream_parts.specs.Lent.{firstOf};
 
 // The first n of a lent slice; none where it is shorter.
 pub fn first_longs<'a>(longs: &'a [u64], n: usize) -> &'a [u64]

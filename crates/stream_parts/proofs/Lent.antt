@@ -5,7 +5,7 @@ use mathlib.Core.List.{List, []}
 use native.Mathlib.Omega.{arith}
 use lib.ListN.{length, take}
 use borrow.Author.Tests.{le-leb, lt-leb}
-use Rattle.stream_read.specs.Lent.{either, firstOf}
+use Rattle.stream_parts.specs.Lent.{either, firstOf}
 
 pub first-in : {A : Type 0} → (n : ℕ) → (s : List A) → n ≤ length s → take (n - 0) s ≡ firstOf n s
 unfolding firstOf

@@ -1,0 +1,14 @@
+// The arrays that a recorded stream is read into: their room, and the parts that a record filled.
+mod parts;
+mod room;
+
+pub use crate::parts::first_bytes;
+pub use crate::parts::first_floats;
+pub use crate::parts::first_longs;
+pub use crate::parts::first_words;
+pub use crate::room::no_bytes;
+pub use crate::room::no_coords;
+pub use crate::room::no_longs;
+pub use crate::room::no_places;
+pub use crate::room::no_stars;
+pub use crate::room::no_triples;
