@@ -29,7 +29,7 @@ use Rattle.search_feed.specs.Data.{Data}
 use Rattle.search_feed.specs.Feed.{feed, slotAt, entryAt, testedAt, ifHit, hashOfRead}
 use Rattle.chains.specs.Glances.{passesBy, glanceOf}
 use Rattle.chains.specs.Chains.{along, alongBy, glanceAt, alongKey, stand}
-use Rattle.chains.specs.Quiet.{keyAt, Quiet, Leads}
+use Rattle.chains.specs.Quiet.{atKey, Quiet, Leads}
 use Rattle.chains.specs.declared.Glance.{Glance}
 use Rattle.chains.specs.declared.Glance.the-variants.{Empty, Passed, Stop}
 use Rattle.chains.specs.declared.Along.{Along}
@@ -84,7 +84,7 @@ module _ (D : Data) (r : Position) where
 -- ---- along the chain of key k of a combination
 module _ (D : Data) (p : Position) (k : ℕ) where
   abbrev at : ℕ → Position
-  at c = keyAt p k c
+  at c = atKey p k c
 
   abbrev F : Feed (List ℕ) Candidate
   F = feed D
@@ -155,7 +155,7 @@ module _ (D : Data) (p : Position) (k : ℕ) where
         by Passed e ih = two (passed-quiet D (at c) (sym (look-is c) ∙ e)) ih (ltb (suc c) (D .slots)) refl
 
 -- ---- key after key of a combination
-module _ (D : Data) (p : Position) (hashes : List ℕ) (keys : ℕ) (ke : keys ≡ feed D .keys (p .pass) (p .four)) (he : (k : ℕ) → k < keys → getD hashes k 0 ≡ hashOfRead (D .frame) (keyAt p k 0)) where
+module _ (D : Data) (p : Position) (hashes : List ℕ) (keys : ℕ) (ke : keys ≡ feed D .keys (p .pass) (p .four)) (he : (k : ℕ) → k < keys → getD hashes k 0 ≡ hashOfRead (D .frame) (atKey p k 0)) where
   abbrev found : ℕ → ℕ → ℕ → Along
   found k a c = alongKey (D .words) (D .packed) (D .stars) (D .slots) hashes k a c
 
@@ -163,13 +163,13 @@ module _ (D : Data) (p : Position) (hashes : List ℕ) (keys : ℕ) (ke : keys �
   stood = stand (D .words) (D .packed) (D .stars) (D .slots) hashes
 
   abbrev Stands : ℕ → ℕ → ℕ → Stand → Type 0
-  Stands k c a t = Leads (feed D) (keyAt p k c) a (t .left) (keyAt p (t .key) (t .probe))
+  Stands k c a t = Leads (feed D) (atKey p k c) a (t .left) (atKey p (t .key) (t .probe))
 
   -- over a key that isn't the last: the first read of the next
-  key-on : (k c n : ℕ) (cap : Cap) → suc k < keys → afterKey (feed D) cap (p .pass) (p .four) k n ≡ goes (keyAt p (suc k) 0)
-  key-on k c n cap h = key-more (feed D) cap n (keyAt p k c) keys ke (omega arith) ∙ ap (λ x. goes (keyAt p x 0)) (let y : k + 1 ≡ suc k = omega arith in y)
+  key-on : (k c n : ℕ) (cap : Cap) → suc k < keys → afterKey (feed D) cap (p .pass) (p .four) k n ≡ goes (atKey p (suc k) 0)
+  key-on k c n cap h = key-more (feed D) cap n (atKey p k c) keys ke (omega arith) ∙ ap (λ x. goes (atKey p x 0)) (let y : k + 1 ≡ suc k = omega arith in y)
 
-  not-begun : (k : ℕ) → starts (keyAt p (suc k) 0) ≡ false
+  not-begun : (k : ℕ) → starts (atKey p (suc k) 0) ≡ false
   unfolding starts isZero
   not-begun k = refl
 
@@ -184,6 +184,6 @@ module _ (D : Data) (p : Position) (hashes : List ℕ) (keys : ℕ) (ke : keys �
     where
       by : (b : Bool) → Way D p k b a c (found k a c) → Stands (suc k) 0 (found k a c .left) (stood more (suc k) 0 (found k a c .left)) → Stands k c a (cond b (stood more (suc k) 0 (found k a c .left)) (record { key = k; probe = found k a c .probe; left = found k a c .left }))
       by true w ih =
-          leads-then (feed D) (keyAt p k c) (keyAt p (suc k) 0) _ (found k a c .left) (not-begun k) a _ (w .1)
-          (λ cap n. subst (λ (v : Next). Quiet (feed D) cap (a - found k a c .left) (goes (keyAt p k c)) n v (bump (keyAt p k c) n)) (key-on k c (bump (keyAt p k c) n) cap (omega arith)) (w .2 cap n)) ih
+          leads-then (feed D) (atKey p k c) (atKey p (suc k) 0) _ (found k a c .left) (not-begun k) a _ (w .1)
+          (λ cap n. subst (λ (v : Next). Quiet (feed D) cap (a - found k a c .left) (goes (atKey p k c)) n v (bump (atKey p k c) n)) (key-on k c (bump (atKey p k c) n) cap (omega arith)) (w .2 cap n)) ih
       by false w ih = w

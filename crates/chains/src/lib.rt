@@ -8,7 +8,7 @@ ghost use Rattle.table_blocks.specs.Blocks.{tableFits};
 ghost use Rattle.pattern_entry.specs.Entry.{bytesAt};
 ghost use Rattle.chains.specs.Glances.{SoundBelow, askedStars, passesBy, glanceOf};
 ghost use Rattle.chains.specs.Chains.{along, stand};
-ghost use Rattle.chains.specs.Quiet.{keyAt};
+ghost use Rattle.chains.specs.Quiet.{atKey};
 use pattern_catalog::Found;
 use undivided_run::Position;
 
@@ -65,7 +65,7 @@ pub fn ask_stars(stars: &[f32], known: Known, made: u64) -> Known
 
 // Another key and probe of the same combination.
 pub fn moved(p: Position, key: u32, probe: u32) -> Position
-    ensures { λ r. ⌜ r ≡ keyAt p key probe ⌝ }
+    ensures { λ r. ⌜ r ≡ atKey p key probe ⌝ }
 {
     let four = p.four;
     Position {

@@ -13,7 +13,7 @@ use Rattle.float_order.proofs.Order.{lt-or-le}
 use Rattle.key_list.specs.Keys.{apart, far, keysOf}
 use Rattle.key_list.specs.Listed.{Has, here, there, Listed, Before, Precedes, Ordered, ordered, ordered-none}
 use Rattle.key_list.proofs.Unique.{keys-unique}
-use Rattle.key_codes.specs.Codes.{keyAt, codeOf, has, keysIn, Pairs}
+use Rattle.key_codes.specs.Codes.{keyOfCode, codeOf, has, keysOfCodes, Pairs}
 use Rattle.key_codes.specs.Order.{orderOf}
 use Rattle.key_codes.specs.Valid.{validOf}
 use Rattle.key_codes.proofs.Sets.{at, Good, valid-good, good-valid}
@@ -73,8 +73,8 @@ module _ (l0 l1 l2 l3 l4 p q r s t p' q' r' s' t' : ℕ) (P : p' ≤ 1) (Q : q �
             ]
       ]
 
-before : (lo : List ℕ) (x z : ℕ) → x < 32 → z < 32 → x < z → Before 5 (keyAt lo x) (keyAt lo z)
-unfolding keyAt
+before : (lo : List ℕ) (x z : ℕ) → x < 32 → z < 32 → x < z → Before 5 (keyOfCode lo x) (keyOfCode lo z)
+unfolding keyOfCode
 before lo x z h k l =
     lexicographic (getD lo 0 0) (getD lo 1 0) (getD lo 2 0) (getD lo 3 0) (getD lo 4 0) (x / 16 % 2) (x / 8 % 2) (x / 4 % 2) (x / 2 % 2) (x % 2) (z / 16 % 2) (z / 8 % 2) (z / 4 % 2) (z / 2 % 2) (z % 2) (omega arith) (omega arith) (omega arith) (omega arith) (omega arith) (omega arith) (omega arith) (omega arith) (omega arith)
     (subst (λ (y : ℕ). y < z / 16 % 2 * 16 + z / 8 % 2 * 8 + z / 4 % 2 * 4 + z / 2 % 2 * 2 + z % 2) (bits-of x h) (subst (λ (y : ℕ). x < y) (bits-of z k) l))
@@ -92,8 +92,8 @@ module _ (c lo hi : List ℕ) (B : ℕ) (g : Pairs c lo hi B) where
       bits-are (getD c 0 0 - getD lo 0 0) (getD c 1 0 - getD lo 1 0) (getD c 2 0 - getD lo 2 0) (getD c 3 0 - getD lo 3 0) (getD c 4 0 - getD lo 4 0)
       (omega (arith, g .first .1, w .first)) (omega (arith, g .second .1, w .second)) (omega (arith, g .third .1, w .third)) (omega (arith, g .fourth .1, w .fourth)) (omega (arith, g .fifth .1, w .fifth))
 
-  far-differ : (x : ℕ) → far c (keyAt lo x) ≡ differ (codeOf c lo) x
-  unfolding far keyAt differ
+  far-differ : (x : ℕ) → far c (keyOfCode lo x) ≡ differ (codeOf c lo) x
+  unfolding far keyOfCode differ
   far-differ x =
       let b = code-bits in
       let e0 = apart-shift (getD c 0 0) (getD lo 0 0) (codeOf c lo / 16 % 2) (x / 16 % 2) (omega (arith, b .b0, g .first .0)) in
@@ -104,12 +104,12 @@ module _ (c lo hi : List ℕ) (B : ℕ) (g : Pairs c lo hi B) where
       cc
 
   -- a code of smaller rank comes first
-  by-rank : (x z : ℕ) → x < 32 → z < 32 → rank (codeOf c lo) x < rank (codeOf c lo) z → Precedes c (keyAt lo x) (keyAt lo z)
+  by-rank : (x z : ℕ) → x < 32 → z < 32 → rank (codeOf c lo) x < rank (codeOf c lo) z → Precedes c (keyOfCode lo x) (keyOfCode lo z)
   unfolding rank
   by-rank x z h k l =
       let e = far-differ x in
       let f = far-differ z in
-      elim (lt-or-le (far c (keyAt lo x)) (far c (keyAt lo z))) [
+      elim (lt-or-le (far c (keyOfCode lo x)) (far c (keyOfCode lo z))) [
         | inl p ↦ inl p
         | inr p ↦ inr (omega arith, before lo x z h k (omega arith))
       ]
@@ -120,13 +120,13 @@ pub record Coded (c : ℕ) (lo : List ℕ) (v m : ℕ) (y : List ℕ) : Type 0 w
   pub small : x < 32
   pub late : m ≤ rank c x
   pub valid : T (has v x)
-  pub is : y ≡ keyAt lo x
+  pub is : y ≡ keyOfCode lo x
 
 module _ (c : ℕ) (lo : List ℕ) (v : ℕ) where
   later : (m n : ℕ) (y : List ℕ) → m ≤ n → Coded c lo v n y → Coded c lo v m y
   later m n y h k = record { x = k .x; small = k .small; late = le-trans h (k .late); valid = k .valid; is = k .is }
 
-  coded-head : (b : Bool) (x m : ℕ) (ks : List (List ℕ)) {y : List ℕ} → x < 32 → m ≤ rank c x → (b ≡ true → T (has v x)) → (Has y ks → Coded c lo v (suc (rank c x)) y) → Has y (cond b (keyAt lo x ∷ ks) ks) → Coded c lo v m y
+  coded-head : (b : Bool) (x m : ℕ) (ks : List (List ℕ)) {y : List ℕ} → x < 32 → m ≤ rank c x → (b ≡ true → T (has v x)) → (Has y ks → Coded c lo v (suc (rank c x)) y) → Has y (cond b (keyOfCode lo x ∷ ks) ks) → Coded c lo v m y
   coded-head true x m ks s h t f (here k) = record { x = x; small = s; late = h; valid = t refl; is = refl }
   coded-head true x m ks {y} s h t f (there z i) = later m (suc (rank c x)) y (omega arith) (f i)
   coded-head false x m ks {y} s h t f i = later m (suc (rank c x)) y (omega arith) (f i)
@@ -134,15 +134,15 @@ module _ (c : ℕ) (lo : List ℕ) (v : ℕ) where
   true-T : (b : Bool) → b ≡ true → T b
   true-T b e = subst (λ (z : Bool). T z) (sym e) tt
 
-  pub coded : (l : List ℕ) (m : ℕ) → T (rising c m l) → (y : List ℕ) → Has y (keysIn lo v l) → Coded c lo v m y
-  unfolding keysIn
+  pub coded : (l : List ℕ) (m : ℕ) → T (rising c m l) → (y : List ℕ) → Has y (keysOfCodes lo v l) → Coded c lo v m y
+  unfolding keysOfCodes
   coded [] m t y h = absurd (elim h [ ])
   coded (x ∷ l) m t y h =
       let s = step c m x l t in
-      coded-head (has v x) x m (keysIn lo v l) (s .small) (s .late) (true-T (has v x)) (λ i. coded l (suc (rank c x)) (s .rest) y i) h
+      coded-head (has v x) x m (keysOfCodes lo v l) (s .small) (s .late) (true-T (has v x)) (λ i. coded l (suc (rank c x)) (s .rest) y i) h
 
   -- the key of each valid code of the list stands in it
-  has-head : (b : Bool) (x : ℕ) (ks : List (List ℕ)) → T b → Has (keyAt lo x) (cond b (keyAt lo x ∷ ks) ks)
+  has-head : (b : Bool) (x : ℕ) (ks : List (List ℕ)) → T b → Has (keyOfCode lo x) (cond b (keyOfCode lo x ∷ ks) ks)
   has-head true x ks t = here ks
   has-head false x ks t = absurd t
 
@@ -154,32 +154,32 @@ module _ (c : ℕ) (lo : List ℕ) (v : ℕ) where
   has-either true x z l f t = inl (f refl)
   has-either false x z l f t = inr t
 
-  pub has-code : (l : List ℕ) (x : ℕ) → T (among x l) → T (has v x) → Has (keyAt lo x) (keysIn lo v l)
-  unfolding keysIn among
+  pub has-code : (l : List ℕ) (x : ℕ) → T (among x l) → T (has v x) → Has (keyOfCode lo x) (keysOfCodes lo v l)
+  unfolding keysOfCodes among
   has-code [] x t h = absurd t
   has-code (z ∷ l) x t h =
       elim (has-either (eqb x z) x z l (eqb-true x z) t) [
-        | inl e ↦ subst (λ (y : ℕ). Has (keyAt lo x) (cond (has v y) (keyAt lo y ∷ keysIn lo v l) (keysIn lo v l))) e (has-head (has v x) x (keysIn lo v l) h)
-        | inr u ↦ has-tail (has v z) (keyAt lo x) (keyAt lo z) (keysIn lo v l) (has-code l x u h)
+        | inl e ↦ subst (λ (y : ℕ). Has (keyOfCode lo x) (cond (has v y) (keyOfCode lo y ∷ keysOfCodes lo v l) (keysOfCodes lo v l))) e (has-head (has v x) x (keysOfCodes lo v l) h)
+        | inr u ↦ has-tail (has v z) (keyOfCode lo x) (keyOfCode lo z) (keysOfCodes lo v l) (has-code l x u h)
       ]
 
 -- the list is ordered
 module _ (c lo hi : List ℕ) (B : ℕ) (g : Pairs c lo hi B) where
-  ordered-head : (b : Bool) (x : ℕ) (ks : List (List ℕ)) → ((y : List ℕ) → Has y ks → Precedes c (keyAt lo x) y) → Ordered (Precedes c) ks → Ordered (Precedes c) (cond b (keyAt lo x ∷ ks) ks)
+  ordered-head : (b : Bool) (x : ℕ) (ks : List (List ℕ)) → ((y : List ℕ) → Has y ks → Precedes c (keyOfCode lo x) y) → Ordered (Precedes c) ks → Ordered (Precedes c) (cond b (keyOfCode lo x ∷ ks) ks)
   ordered-head true x ks f o = ordered f o
   ordered-head false x ks f o = o
 
-  precedes : (v x : ℕ) (l : List ℕ) → x < 32 → T (rising (codeOf c lo) (suc (rank (codeOf c lo) x)) l) → (y : List ℕ) → Has y (keysIn lo v l) → Precedes c (keyAt lo x) y
+  precedes : (v x : ℕ) (l : List ℕ) → x < 32 → T (rising (codeOf c lo) (suc (rank (codeOf c lo) x)) l) → (y : List ℕ) → Has y (keysOfCodes lo v l) → Precedes c (keyOfCode lo x) y
   precedes v x l s t y h =
       let k = coded (codeOf c lo) lo v l (suc (rank (codeOf c lo) x)) t y h in
-      subst (λ (z : List ℕ). Precedes c (keyAt lo x) z) (sym (k .is)) (by-rank c lo hi B g x (k .x) s (k .small) (k .late))
+      subst (λ (z : List ℕ). Precedes c (keyOfCode lo x) z) (sym (k .is)) (by-rank c lo hi B g x (k .x) s (k .small) (k .late))
 
-  codes-ordered : (v : ℕ) (l : List ℕ) (m : ℕ) → T (rising (codeOf c lo) m l) → Ordered (Precedes c) (keysIn lo v l)
-  unfolding keysIn
+  codes-ordered : (v : ℕ) (l : List ℕ) (m : ℕ) → T (rising (codeOf c lo) m l) → Ordered (Precedes c) (keysOfCodes lo v l)
+  unfolding keysOfCodes
   codes-ordered v [] m t = ordered-none
   codes-ordered v (x ∷ l) m t =
       let s = step (codeOf c lo) m x l t in
-      ordered-head (has v x) x (keysIn lo v l) (precedes v x l (s .small) (s .rest)) (codes-ordered v l (suc (rank (codeOf c lo) x)) (s .rest))
+      ordered-head (has v x) x (keysOfCodes lo v l) (precedes v x l (s .small) (s .rest)) (codes-ordered v l (suc (rank (codeOf c lo) x)) (s .rest))
 
   -- a valid code is a key in the ranges that never falls
   in-range : (l h u : ℕ) → l ≤ h → u ≤ 1 → (l ≡ h → u ≡ 0) → l + u ≤ h
@@ -192,8 +192,8 @@ module _ (c lo hi : List ℕ) (B : ℕ) (g : Pairs c lo hi B) where
         | inr p ↦ elim (lt-or-le u 1) [ inl q ↦ omega arith | inr q ↦ let e = f (omega arith) (omega arith) in omega arith ]
       ]
 
-  good-listed : (x : ℕ) → x < 32 → Good lo hi x → Listed lo hi (keyAt lo x)
-  unfolding keyAt
+  good-listed : (x : ℕ) → x < 32 → Good lo hi x → Listed lo hi (keyOfCode lo x)
+  unfolding keyOfCode
   good-listed x h k =
       record {
         p = getD lo 0 0 + x / 16 % 2;
@@ -215,7 +215,7 @@ module _ (c lo hi : List ℕ) (B : ℕ) (g : Pairs c lo hi B) where
         fifth = (omega arith, in-range (getD lo 4 0) (getD hi 4 0) (x % 2) (le-trans (g .fifth .0) (g .fifth .1)) (omega arith) (k .fifth));
       }
 
-  codes-only : (k : List ℕ) → Has k (keysIn lo (validOf lo hi) (orderOf (codeOf c lo))) → Listed lo hi k
+  codes-only : (k : List ℕ) → Has k (keysOfCodes lo (validOf lo hi) (orderOf (codeOf c lo))) → Listed lo hi k
   codes-only k h =
       let d = coded (codeOf c lo) lo (validOf lo hi) (orderOf (codeOf c lo)) 0 (order-rises (codeOf c lo) (code-bits c lo hi B g .small)) k h in
       subst (λ (y : List ℕ). Listed lo hi y) (sym (d .is)) (good-listed (d .x) (d .small) (valid-good lo hi (d .x) (d .small) (d .valid)))
@@ -238,8 +238,8 @@ module _ (c lo hi : List ℕ) (B : ℕ) (g : Pairs c lo hi B) where
       climb : (a d p q u w : ℕ) → u ≡ p - a → w ≡ q - d → p ≤ q → w ≤ 1 → a ≡ d → u ≡ 1 → w ≡ 1
       climb a d p q u w e f h j i o = omega arith
 
-  key-back : (k : List ℕ) (l : Listed lo hi k) → (x : ℕ) → Bits x (l .p - getD lo 0 0) (l .q - getD lo 1 0) (l .r - getD lo 2 0) (l .s - getD lo 3 0) (l .t - getD lo 4 0) → keyAt lo x ≡ k
-  unfolding keyAt
+  key-back : (k : List ℕ) (l : Listed lo hi k) → (x : ℕ) → Bits x (l .p - getD lo 0 0) (l .q - getD lo 1 0) (l .r - getD lo 2 0) (l .s - getD lo 3 0) (l .t - getD lo 4 0) → keyOfCode lo x ≡ k
+  unfolding keyOfCode
   key-back k l x b =
       let e0 : getD lo 0 0 + x / 16 % 2 ≡ l .p = omega (arith, b .b0, l .first .0) in
       let e1 : getD lo 1 0 + x / 8 % 2 ≡ l .q = omega (arith, b .b1, l .second .0) in
@@ -248,7 +248,7 @@ module _ (c lo hi : List ℕ) (B : ℕ) (g : Pairs c lo hi B) where
       let e4 : getD lo 4 0 + x % 2 ≡ l .t = omega (arith, b .b4, l .fifth .0) in
       cc (l .is)
 
-  codes-all : (k : List ℕ) → Listed lo hi k → Has k (keysIn lo (validOf lo hi) (orderOf (codeOf c lo)))
+  codes-all : (k : List ℕ) → Listed lo hi k → Has k (keysOfCodes lo (validOf lo hi) (orderOf (codeOf c lo)))
   codes-all k l =
       let w = g .two in
       let p = l .p - getD lo 0 0 in
@@ -258,12 +258,12 @@ module _ (c lo hi : List ℕ) (B : ℕ) (g : Pairs c lo hi B) where
       let t = l .t - getD lo 4 0 in
       let x = p * 16 + q * 8 + r * 4 + s * 2 + t in
       let b = bits-are p q r s t (omega (arith, l .first .1, w .first)) (omega (arith, l .second .1, w .second)) (omega (arith, l .third .1, w .third)) (omega (arith, l .fourth .1, w .fourth)) (omega (arith, l .fifth .1, w .fifth)) in
-      subst (λ (y : List ℕ). Has y (keysIn lo (validOf lo hi) (orderOf (codeOf c lo)))) (key-back k l x b)
+      subst (λ (y : List ℕ). Has y (keysOfCodes lo (validOf lo hi) (orderOf (codeOf c lo)))) (key-back k l x b)
       (has-code (codeOf c lo) lo (validOf lo hi) (orderOf (codeOf c lo)) x (order-all (codeOf c lo) (code-bits c lo hi B g .small) x (b .small)) (good-valid lo hi x (b .small) (code-good k l x b)))
 
-  pub keys-by-codes : keysIn lo (validOf lo hi) (orderOf (codeOf c lo)) ≡ keysOf c lo hi
+  pub keys-by-codes : keysOfCodes lo (validOf lo hi) (orderOf (codeOf c lo)) ≡ keysOf c lo hi
   keys-by-codes =
-      keys-unique c lo hi (keysIn lo (validOf lo hi) (orderOf (codeOf c lo)))
+      keys-unique c lo hi (keysOfCodes lo (validOf lo hi) (orderOf (codeOf c lo)))
       (codes-ordered (validOf lo hi) (orderOf (codeOf c lo)) 0 (order-rises (codeOf c lo) (code-bits c lo hi B g .small)))
       codes-only
       codes-all

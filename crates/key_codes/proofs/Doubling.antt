@@ -9,7 +9,7 @@ use lib.ListN.{length, getD, set, length-set}
 use lib.Seq.{getD-set-same, getD-set-other}
 use Rattle.float_order.proofs.Order.{lt-or-le}
 use Rattle.key_hash.specs.Key.{hashOf}
-use Rattle.key_codes.specs.Codes.{keyAt}
+use Rattle.key_codes.specs.Codes.{keyOfCode}
 use Rattle.key_codes.specs.Steps.{Doubled, Room, Sums}
 
 -- ---- the loop
@@ -40,8 +40,8 @@ half-more before after n v i h k t =
 abbrev weight : ℕ → ℕ → ℕ
 weight B x = x / 16 % 2 * B ^ 0 + x / 8 % 2 * B ^ 1 + x / 4 % 2 * B ^ 2 + x / 2 % 2 * B ^ 3 + x % 2 * B ^ 4
 
-pub hash-weight : (lo : List ℕ) (B x : ℕ) → hashOf (keyAt lo x) B ≡ hashOf lo B + weight B x
-unfolding keyAt hashOf
+pub hash-weight : (lo : List ℕ) (B x : ℕ) → hashOf (keyOfCode lo x) B ≡ hashOf lo B + weight B x
+unfolding keyOfCode hashOf
 hash-weight lo B x = omega arith
 
 next : (n v : ℕ) (a b lo : List ℕ) (B m : ℕ) → ((i : ℕ) → i < n → weight B (n + i) ≡ weight B i + v) → Sums a lo B n m → Doubled a b n v → Sums b lo B (n + n) (m + v)
@@ -53,7 +53,7 @@ next n v a b lo B m w s d =
             let i = x - n in
             let e : n + i ≡ x = omega arith in
             let k : i < n = omega arith in
-            subst (λ (y : ℕ). getD b y 0 ≡ hashOf (keyAt lo y) B) e
+            subst (λ (y : ℕ). getD b y 0 ≡ hashOf (keyOfCode lo y) B) e
             (d .more i k ∙ omega (arith, s .each i k, w i k, hash-weight lo B i, hash-weight lo B (n + i)))
       ];
       below = λ x h. elim (lt-or-le x n) [
@@ -169,7 +169,7 @@ sums-first a lo B h l e b =
     record {
       each = λ x k.
           let z : x ≡ 0 = omega arith in
-          subst (λ (y : ℕ). getD (set a 0 h) y 0 ≡ hashOf (keyAt lo y) B) (sym z) (s ∙ omega (arith, e, hash-weight lo B 0));
+          subst (λ (y : ℕ). getD (set a 0 h) y 0 ≡ hashOf (keyOfCode lo y) B) (sym z) (s ∙ omega (arith, e, hash-weight lo B 0));
       below = λ x k.
           let z : x ≡ 0 = omega arith in
           subst (λ (y : ℕ). getD (set a 0 h) y 0 < 4611686018427387904) (sym z) (omega arith);

@@ -10,7 +10,7 @@ use lib.ListN.{length, take, getD, set, length-append, length-set}
 use lib.Seq.{take-suc-set, take-set-le, getD-take, length-take-le}
 use Rattle.key_hash.specs.Key.{hashOf}
 use Rattle.pattern_keys.specs.Steps.{Hashed}
-use Rattle.key_codes.specs.Codes.{keyAt, has, keysIn, chosen}
+use Rattle.key_codes.specs.Codes.{keyOfCode, has, keysOfCodes, chosen}
 use Rattle.key_codes.specs.Order.{unpack}
 use Rattle.key_codes.specs.Steps.{Put, Sums}
 use Rattle.key_codes.proofs.Around.{rank, rising, step}
@@ -96,22 +96,22 @@ module _ (lo : List ℕ) (B : ℕ) (a : List ℕ) (v c bound : ℕ) (sums : Sums
     many : length l ≡ length ks
     each : (i : ℕ) → i < length l → getD l i 0 ≡ hashOf (getD ks i []) B
 
-  same-head : (b : Bool) (x : ℕ) (ks : List (List ℕ)) (l : List ℕ) → x < 32 → Same ks l → Same (cond b (keyAt lo x ∷ ks) ks) (cond b (getD a x 0 ∷ l) l)
+  same-head : (b : Bool) (x : ℕ) (ks : List (List ℕ)) (l : List ℕ) → x < 32 → Same ks l → Same (cond b (keyOfCode lo x ∷ ks) ks) (cond b (getD a x 0 ∷ l) l)
   same-head true x ks l h s = record { many = ap suc (s .many); each = go }
     where
-      go : (i : ℕ) → i < suc (length l) → getD (getD a x 0 ∷ l) i 0 ≡ hashOf (getD (keyAt lo x ∷ ks) i []) B
+      go : (i : ℕ) → i < suc (length l) → getD (getD a x 0 ∷ l) i 0 ≡ hashOf (getD (keyOfCode lo x ∷ ks) i []) B
       go zero p = sums .each x h
       go (suc i) p = s .each i (omega arith)
   same-head false x ks l h s = s
 
-  same-all : (l : List ℕ) (m : ℕ) → T (rising c m l) → Same (keysIn lo v l) (chosen a v l)
-  unfolding keysIn chosen
+  same-all : (l : List ℕ) (m : ℕ) → T (rising c m l) → Same (keysOfCodes lo v l) (chosen a v l)
+  unfolding keysOfCodes chosen
   same-all [] m t = record { many = refl; each = λ i h. absurd (omega arith) }
   same-all (x ∷ l) m t =
       let s = step c m x l t in
-      same-head (has v x) x (keysIn lo v l) (chosen a v l) (s .small) (same-all l (suc (rank c x)) (s .rest))
+      same-head (has v x) x (keysOfCodes lo v l) (chosen a v l) (s .small) (same-all l (suc (rank c x)) (s .rest))
 
-  pub hashed : (before after : List ℕ) (n : ℕ) (l : List ℕ) → T (rising c 0 l) → Put before after 0 n (chosen a v l) → Hashed after n (keysIn lo v l) B
+  pub hashed : (before after : List ℕ) (n : ℕ) (l : List ℕ) → T (rising c 0 l) → Put before after 0 n (chosen a v l) → Hashed after n (keysOfCodes lo v l) B
   hashed before after n l t p =
       let s = same-all l 0 t in
       record {

@@ -11,7 +11,7 @@ use lib.Dec.{T, eqb, eqb→eq}
 use lib.ListN.{getD}
 use Rattle.float_order.proofs.Order.{lt-or-le}
 use Rattle.key_codes.specs.Codes.{has}
-use Rattle.key_codes.specs.Valid.{kept, single, rangedOf, level, validOf}
+use Rattle.key_codes.specs.Valid.{masked, single, rangedOf, level, validOf}
 
 -- ---- tests
 abbrev pub both : Bool → Bool → Bool
@@ -76,20 +76,20 @@ has-and v m x =
     ap (λ (z : ℕ). eqb z 1) (ap (λ (z : ℕ). z % 2) (and-shr v m x) ∙ and-mod (v / 2 ^ x) (m / 2 ^ x) 1)
     ∙ bit-and (v / 2 ^ x % 2) (m / 2 ^ x % 2) (omega arith) (omega arith)
 
-pub kept-of : (v : ℕ) (t : Bool) (m x : ℕ) → T (has v x) → T (implies t (has m x)) → T (has (kept v t m) x)
-unfolding kept
-kept-of v true m x p q = subst T (sym (has-and v m x)) (both-of (has v x) (has m x) p q)
-kept-of v false m x p q = p
+pub masked-of : (v : ℕ) (t : Bool) (m x : ℕ) → T (has v x) → T (implies t (has m x)) → T (has (masked v t m) x)
+unfolding masked
+masked-of v true m x p q = subst T (sym (has-and v m x)) (both-of (has v x) (has m x) p q)
+masked-of v false m x p q = p
 
-pub kept-was : (v : ℕ) (t : Bool) (m x : ℕ) → T (has (kept v t m) x) → T (has v x)
-unfolding kept
-kept-was v true m x p = both-left (has v x) (has m x) (subst T (has-and v m x) p)
-kept-was v false m x p = p
+pub masked-was : (v : ℕ) (t : Bool) (m x : ℕ) → T (has (masked v t m) x) → T (has v x)
+unfolding masked
+masked-was v true m x p = both-left (has v x) (has m x) (subst T (has-and v m x) p)
+masked-was v false m x p = p
 
-pub kept-is : (v : ℕ) (t : Bool) (m x : ℕ) → T (has (kept v t m) x) → T (implies t (has m x))
-unfolding kept
-kept-is v true m x p = both-right (has v x) (has m x) (subst T (has-and v m x) p)
-kept-is v false m x p = tt
+pub masked-is : (v : ℕ) (t : Bool) (m x : ℕ) → T (has (masked v t m) x) → T (implies t (has m x))
+unfolding masked
+masked-is v true m x p = both-right (has v x) (has m x) (subst T (has-and v m x) p)
+masked-is v false m x p = tt
 
 -- ---- the masks
 pub mask : (m : ℕ) (f : ℕ → Bool) → T (below (λ (x : ℕ). same (has m x) (f x)) 32) → (x : ℕ) → x < 32 → has m x ≡ f x
@@ -176,24 +176,24 @@ valid-good lo hi x h p8 =
     let l2 = getD lo 2 0 in
     let l3 = getD lo 3 0 in
     let l4 = getD lo 4 0 in
-    let p7 = kept-was v7 (eqb l3 l4) 0xbbbbbbbb x p8 in
-    let p6 = kept-was v6 (eqb l2 l3) 0xcfcfcfcf x p7 in
-    let p5 = kept-was v5 (eqb l1 l2) 0xf0fff0ff x p6 in
-    let p4 = kept-was v4 (eqb l0 l1) 0xff00ffff x p5 in
-    let p3 = kept-was v3 (eqb l4 (getD hi 4 0)) 0x55555555 x p4 in
-    let p2 = kept-was v2 (eqb l3 (getD hi 3 0)) 0x33333333 x p3 in
-    let p1 = kept-was v1 (eqb l2 (getD hi 2 0)) 0x0f0f0f0f x p2 in
-    let p0 = kept-was v0 (eqb l1 (getD hi 1 0)) 0x00ff00ff x p1 in
+    let p7 = masked-was v7 (eqb l3 l4) 0xbbbbbbbb x p8 in
+    let p6 = masked-was v6 (eqb l2 l3) 0xcfcfcfcf x p7 in
+    let p5 = masked-was v5 (eqb l1 l2) 0xf0fff0ff x p6 in
+    let p4 = masked-was v4 (eqb l0 l1) 0xff00ffff x p5 in
+    let p3 = masked-was v3 (eqb l4 (getD hi 4 0)) 0x55555555 x p4 in
+    let p2 = masked-was v2 (eqb l3 (getD hi 3 0)) 0x33333333 x p3 in
+    let p1 = masked-was v1 (eqb l2 (getD hi 2 0)) 0x0f0f0f0f x p2 in
+    let p0 = masked-was v0 (eqb l1 (getD hi 1 0)) 0x00ff00ff x p1 in
     record {
-      first = lower-only l0 (getD hi 0 0) (x / 16 % 2) 0x0000ffff x (m0 x h) (kept-is 0xffffffff (eqb l0 (getD hi 0 0)) 0x0000ffff x p0);
-      second = lower-only l1 (getD hi 1 0) (x / 8 % 2) 0x00ff00ff x (m1 x h) (kept-is v0 (eqb l1 (getD hi 1 0)) 0x00ff00ff x p1);
-      third = lower-only l2 (getD hi 2 0) (x / 4 % 2) 0x0f0f0f0f x (m2 x h) (kept-is v1 (eqb l2 (getD hi 2 0)) 0x0f0f0f0f x p2);
-      fourth = lower-only l3 (getD hi 3 0) (x / 2 % 2) 0x33333333 x (m3 x h) (kept-is v2 (eqb l3 (getD hi 3 0)) 0x33333333 x p3);
-      fifth = lower-only l4 (getD hi 4 0) (x % 2) 0x55555555 x (m4 x h) (kept-is v3 (eqb l4 (getD hi 4 0)) 0x55555555 x p4);
-      rise0 = no-fall l0 l1 (x / 16 % 2) (x / 8 % 2) 0xff00ffff x (f0 x h) (kept-is v4 (eqb l0 l1) 0xff00ffff x p5);
-      rise1 = no-fall l1 l2 (x / 8 % 2) (x / 4 % 2) 0xf0fff0ff x (f1 x h) (kept-is v5 (eqb l1 l2) 0xf0fff0ff x p6);
-      rise2 = no-fall l2 l3 (x / 4 % 2) (x / 2 % 2) 0xcfcfcfcf x (f2 x h) (kept-is v6 (eqb l2 l3) 0xcfcfcfcf x p7);
-      rise3 = no-fall l3 l4 (x / 2 % 2) (x % 2) 0xbbbbbbbb x (f3 x h) (kept-is v7 (eqb l3 l4) 0xbbbbbbbb x p8);
+      first = lower-only l0 (getD hi 0 0) (x / 16 % 2) 0x0000ffff x (m0 x h) (masked-is 0xffffffff (eqb l0 (getD hi 0 0)) 0x0000ffff x p0);
+      second = lower-only l1 (getD hi 1 0) (x / 8 % 2) 0x00ff00ff x (m1 x h) (masked-is v0 (eqb l1 (getD hi 1 0)) 0x00ff00ff x p1);
+      third = lower-only l2 (getD hi 2 0) (x / 4 % 2) 0x0f0f0f0f x (m2 x h) (masked-is v1 (eqb l2 (getD hi 2 0)) 0x0f0f0f0f x p2);
+      fourth = lower-only l3 (getD hi 3 0) (x / 2 % 2) 0x33333333 x (m3 x h) (masked-is v2 (eqb l3 (getD hi 3 0)) 0x33333333 x p3);
+      fifth = lower-only l4 (getD hi 4 0) (x % 2) 0x55555555 x (m4 x h) (masked-is v3 (eqb l4 (getD hi 4 0)) 0x55555555 x p4);
+      rise0 = no-fall l0 l1 (x / 16 % 2) (x / 8 % 2) 0xff00ffff x (f0 x h) (masked-is v4 (eqb l0 l1) 0xff00ffff x p5);
+      rise1 = no-fall l1 l2 (x / 8 % 2) (x / 4 % 2) 0xf0fff0ff x (f1 x h) (masked-is v5 (eqb l1 l2) 0xf0fff0ff x p6);
+      rise2 = no-fall l2 l3 (x / 4 % 2) (x / 2 % 2) 0xcfcfcfcf x (f2 x h) (masked-is v6 (eqb l2 l3) 0xcfcfcfcf x p7);
+      rise3 = no-fall l3 l4 (x / 2 % 2) (x % 2) 0xbbbbbbbb x (f3 x h) (masked-is v7 (eqb l3 l4) 0xbbbbbbbb x p8);
     }
 
 all-codes : (x : ℕ) → x < 32 → T (has 0xffffffff x)
@@ -215,12 +215,12 @@ good-valid lo hi x h g =
     let l2 = getD lo 2 0 in
     let l3 = getD lo 3 0 in
     let l4 = getD lo 4 0 in
-    let p0 = kept-of 0xffffffff (eqb l0 (getD hi 0 0)) 0x0000ffff x (all-codes x h) (lower-test l0 (getD hi 0 0) (x / 16 % 2) 0x0000ffff x (m0 x h) (g .first)) in
-    let p1 = kept-of v0 (eqb l1 (getD hi 1 0)) 0x00ff00ff x p0 (lower-test l1 (getD hi 1 0) (x / 8 % 2) 0x00ff00ff x (m1 x h) (g .second)) in
-    let p2 = kept-of v1 (eqb l2 (getD hi 2 0)) 0x0f0f0f0f x p1 (lower-test l2 (getD hi 2 0) (x / 4 % 2) 0x0f0f0f0f x (m2 x h) (g .third)) in
-    let p3 = kept-of v2 (eqb l3 (getD hi 3 0)) 0x33333333 x p2 (lower-test l3 (getD hi 3 0) (x / 2 % 2) 0x33333333 x (m3 x h) (g .fourth)) in
-    let p4 = kept-of v3 (eqb l4 (getD hi 4 0)) 0x55555555 x p3 (lower-test l4 (getD hi 4 0) (x % 2) 0x55555555 x (m4 x h) (g .fifth)) in
-    let p5 = kept-of v4 (eqb l0 l1) 0xff00ffff x p4 (fall-test l0 l1 (x / 16 % 2) (x / 8 % 2) 0xff00ffff x (f0 x h) (g .rise0)) in
-    let p6 = kept-of v5 (eqb l1 l2) 0xf0fff0ff x p5 (fall-test l1 l2 (x / 8 % 2) (x / 4 % 2) 0xf0fff0ff x (f1 x h) (g .rise1)) in
-    let p7 = kept-of v6 (eqb l2 l3) 0xcfcfcfcf x p6 (fall-test l2 l3 (x / 4 % 2) (x / 2 % 2) 0xcfcfcfcf x (f2 x h) (g .rise2)) in
-    kept-of v7 (eqb l3 l4) 0xbbbbbbbb x p7 (fall-test l3 l4 (x / 2 % 2) (x % 2) 0xbbbbbbbb x (f3 x h) (g .rise3))
+    let p0 = masked-of 0xffffffff (eqb l0 (getD hi 0 0)) 0x0000ffff x (all-codes x h) (lower-test l0 (getD hi 0 0) (x / 16 % 2) 0x0000ffff x (m0 x h) (g .first)) in
+    let p1 = masked-of v0 (eqb l1 (getD hi 1 0)) 0x00ff00ff x p0 (lower-test l1 (getD hi 1 0) (x / 8 % 2) 0x00ff00ff x (m1 x h) (g .second)) in
+    let p2 = masked-of v1 (eqb l2 (getD hi 2 0)) 0x0f0f0f0f x p1 (lower-test l2 (getD hi 2 0) (x / 4 % 2) 0x0f0f0f0f x (m2 x h) (g .third)) in
+    let p3 = masked-of v2 (eqb l3 (getD hi 3 0)) 0x33333333 x p2 (lower-test l3 (getD hi 3 0) (x / 2 % 2) 0x33333333 x (m3 x h) (g .fourth)) in
+    let p4 = masked-of v3 (eqb l4 (getD hi 4 0)) 0x55555555 x p3 (lower-test l4 (getD hi 4 0) (x % 2) 0x55555555 x (m4 x h) (g .fifth)) in
+    let p5 = masked-of v4 (eqb l0 l1) 0xff00ffff x p4 (fall-test l0 l1 (x / 16 % 2) (x / 8 % 2) 0xff00ffff x (f0 x h) (g .rise0)) in
+    let p6 = masked-of v5 (eqb l1 l2) 0xf0fff0ff x p5 (fall-test l1 l2 (x / 8 % 2) (x / 4 % 2) 0xf0fff0ff x (f1 x h) (g .rise1)) in
+    let p7 = masked-of v6 (eqb l2 l3) 0xcfcfcfcf x p6 (fall-test l2 l3 (x / 4 % 2) (x / 2 % 2) 0xcfcfcfcf x (f2 x h) (g .rise2)) in
+    masked-of v7 (eqb l3 l4) 0xbbbbbbbb x p7 (fall-test l3 l4 (x / 2 % 2) (x % 2) 0xbbbbbbbb x (f3 x h) (g .rise3))

@@ -8,8 +8,8 @@ use lib.ListN.{getD}
 use Rattle.key_hash.specs.Key.{Parts}
 
 -- the key of a code over the lower ends
-unfoldable pub keyAt : List ℕ → ℕ → List ℕ
-keyAt lo x =
+unfoldable pub keyOfCode : List ℕ → ℕ → List ℕ
+keyOfCode lo x =
     (getD lo 0 0 + x / 16 % 2) ∷ (getD lo 1 0 + x / 8 % 2) ∷ (getD lo 2 0 + x / 4 % 2) ∷ (getD lo 3 0 + x / 2 % 2) ∷ (getD lo 4 0 + x % 2) ∷ []
 
 -- the code of a key over the lower ends
@@ -22,9 +22,9 @@ abbrev pub has : ℕ → ℕ → Bool
 has v x = eqb (v / 2 ^ x % 2) 1
 
 -- of the codes of l those in v: the key of each
-unfoldable pub keysIn : List ℕ → ℕ → List ℕ → List (List ℕ)
-keysIn lo v [] = []
-keysIn lo v (x ∷ l) = cond (has v x) (keyAt lo x ∷ keysIn lo v l) (keysIn lo v l)
+unfoldable pub keysOfCodes : List ℕ → ℕ → List ℕ → List (List ℕ)
+keysOfCodes lo v [] = []
+keysOfCodes lo v (x ∷ l) = cond (has v x) (keyOfCode lo x ∷ keysOfCodes lo v l) (keysOfCodes lo v l)
 
 -- of the codes of l those in v: what the array has for each
 unfoldable pub chosen : List ℕ → ℕ → List ℕ → List ℕ

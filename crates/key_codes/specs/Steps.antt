@@ -4,7 +4,7 @@ use Prim.Native.Nat.{ℕ, _+_, _≤_, _<_}
 use mathlib.Core.List.{List, _++_}
 use lib.ListN.{length, take, getD}
 use Rattle.key_hash.specs.Key.{hashOf}
-use Rattle.key_codes.specs.Codes.{keyAt}
+use Rattle.key_codes.specs.Codes.{keyOfCode}
 
 -- the array had n values and has r: those n, and then l
 pub record Put (before after : List ℕ) (n r : ℕ) (l : List ℕ) : Type 0 where
@@ -26,6 +26,6 @@ pub record Room (a : List ℕ) (n v : ℕ) : Type 0 where
 
 -- the first n values, all below m, are the hashes of the first n codes over the lower ends, for B bins
 pub record Sums (a lo : List ℕ) (B n m : ℕ) : Type 0 where
-  pub each : (x : ℕ) → x < n → getD a x 0 ≡ hashOf (keyAt lo x) B
+  pub each : (x : ℕ) → x < n → getD a x 0 ≡ hashOf (keyOfCode lo x) B
   pub below : (x : ℕ) → x < n → getD a x 0 < m
   pub long : length a ≡ 32

@@ -7,12 +7,12 @@ use lib.Dec.{eqb}
 use lib.ListN.{getD}
 
 -- v, and where the test holds only what mask has too
-unfoldable pub kept : ℕ → Bool → ℕ → ℕ
-kept v test mask = cond test (bitAnd v mask) v
+unfoldable pub masked : ℕ → Bool → ℕ → ℕ
+masked v test mask = cond test (bitAnd v mask) v
 
 -- of v the codes of mask where the range of part i has one value
 abbrev pub single : ℕ → List ℕ → List ℕ → ℕ → ℕ → ℕ
-single i lo hi mask v = kept v (eqb (getD lo i 0) (getD hi i 0)) mask
+single i lo hi mask v = masked v (eqb (getD lo i 0) (getD hi i 0)) mask
 
 -- the codes that are at the lower end in each part whose range has one value
 unfoldable pub rangedOf : List ℕ → List ℕ → ℕ
@@ -21,7 +21,7 @@ rangedOf lo hi =
 
 -- of v the codes of mask where parts i and i + 1 have the same lower end
 abbrev pub level : ℕ → List ℕ → ℕ → ℕ → ℕ
-level i lo mask v = kept v (eqb (getD lo i 0) (getD lo (suc i) 0)) mask
+level i lo mask v = masked v (eqb (getD lo i 0) (getD lo (suc i) 0)) mask
 
 -- of these the codes in which no part is one above its lower end, and the next at the same lower end
 unfoldable pub validOf : List ℕ → List ℕ → ℕ

@@ -1,10 +1,10 @@
 // Which codes are keys in the ranges whose parts never fall: a bit for each of the 32 codes.
 ghost use mathlib.Core.Path.{_≡_};
-ghost use Rattle.key_codes.specs.Valid.{kept, rangedOf, validOf};
+ghost use Rattle.key_codes.specs.Valid.{masked, rangedOf, validOf};
 
 // The codes of v, and where the test holds only those that mask has too.
 fn keep(v: u32, test: bool, mask: u32) -> u32
-    ensures { λ r. ⌜ r ≡ kept v test mask ⌝ }
+    ensures { λ r. ⌜ r ≡ masked v test mask ⌝ }
 {
     if test { v & mask } else { v }
 }

@@ -7,7 +7,7 @@ use mathlib.Core.Bool.{Bool, true, false, cond}
 use mathlib.Core.List.{List, [], _∷_, _++_}
 use lib.Dec.{eqb}
 use lib.ListN.{getD, set}
-use Rattle.key_list.specs.Keys.{flat, run, spread, level, start, inRange, far, atDistance, nearer, farthest, keysOf}
+use Rattle.key_list.specs.Keys.{flat, run, spread, level, start, inRange, far, atDistance, outward, farthest, keysOf}
 use Rattle.key_list.specs.Listed.{Has, here, there, Listed}
 use Rattle.key_list.specs.Claims.{KeysAll, KeysOnly}
 use Rattle.key_list.proofs.Laws.{keys-has}
@@ -114,18 +114,18 @@ at-from c d x {k} h = go (eqb (far c x) d) h
     go true g = has-one x g
     go false g = absurd (has-none g)
 
-nearer-from : (c : List ℕ) (ks : List (List ℕ)) (n : ℕ) {k : List ℕ} → Has k (nearer c ks n) → Has k ks
-unfolding nearer
-nearer-from c ks zero h = absurd (has-none h)
-nearer-from c ks (suc d) {k} h =
-    elim (has-split (nearer c ks d) (flat (atDistance c d) ks) h) [
-      | inl a ↦ nearer-from c ks d a
+outward-from : (c : List ℕ) (ks : List (List ℕ)) (n : ℕ) {k : List ℕ} → Has k (outward c ks n) → Has k ks
+unfolding outward
+outward-from c ks zero h = absurd (has-none h)
+outward-from c ks (suc d) {k} h =
+    elim (has-split (outward c ks d) (flat (atDistance c d) ks) h) [
+      | inl a ↦ outward-from c ks d a
       | inr b ↦ let r = flat-from (atDistance c d) ks b in subst (λ (y : List ℕ). Has y ks) (sym (at-from c d (r .x) (r .gives))) (r .is)
     ]
 
 pub keys-only : KeysOnly
 unfolding keysOf
-keys-only c lo hi k h = in-range-from lo hi (nearer-from c (inRange lo hi) (suc (farthest c lo hi)) h)
+keys-only c lo hi k h = in-range-from lo hi (outward-from c (inRange lo hi) (suc (farthest c lo hi)) h)
 
 pub keys-all : KeysAll
 keys-all c lo hi k l =

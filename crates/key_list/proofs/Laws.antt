@@ -14,7 +14,7 @@ use borrow.Author.Tests.{lt-ltb, le-ltb}
 use lib.Dec.{ltb}
 use lib.ListN.{length, getD, set, length-append}
 use Rattle.float_order.proofs.Order.{lt-or-le}
-use Rattle.key_list.specs.Keys.{flat, run, spread, level, start, inRange, apart, far, atDistance, nearer, farther, farthest, keysOf}
+use Rattle.key_list.specs.Keys.{flat, run, spread, level, start, inRange, apart, far, atDistance, outward, farther, farthest, keysOf}
 use Rattle.key_list.specs.Steps.{Narrow}
 use Rattle.key_list.specs.Listed.{Has, here, there, Part}
 use Rattle.key_list.proofs.Lists.{at-yes, at-no, level-length}
@@ -50,28 +50,28 @@ counts-more c k d =
       ]
     ]
 
-nearer-cons : (c k : List ℕ) (ks : List (List ℕ)) (n : ℕ) → length (nearer c (k ∷ ks) n) ≡ counts (far c k) n + length (nearer c ks n)
-unfolding nearer flat
-nearer-cons c k ks zero = omega (arith, counts-no (far c k) 0 (omega arith))
-nearer-cons c k ks (suc d) =
+outward-cons : (c k : List ℕ) (ks : List (List ℕ)) (n : ℕ) → length (outward c (k ∷ ks) n) ≡ counts (far c k) n + length (outward c ks n)
+unfolding outward flat
+outward-cons c k ks zero = omega (arith, counts-no (far c k) 0 (omega arith))
+outward-cons c k ks (suc d) =
     let m : counts (far c k) (suc d) ≡ counts (far c k) d + length (atDistance c d k) = ap (counts (far c k)) (sym (add-one d)) ∙ counts-more c k d in
     omega (
       arith,
-      length-append (nearer c (k ∷ ks) d) (atDistance c d k ++ flat (atDistance c d) ks),
+      length-append (outward c (k ∷ ks) d) (atDistance c d k ++ flat (atDistance c d) ks),
       length-append (atDistance c d k) (flat (atDistance c d) ks),
-      length-append (nearer c ks d) (flat (atDistance c d) ks),
-      nearer-cons c k ks d,
+      length-append (outward c ks d) (flat (atDistance c d) ks),
+      outward-cons c k ks d,
       m,
     )
 
-nearer-none : (c : List ℕ) (n : ℕ) → length (nearer c [] n) ≡ 0
-unfolding nearer flat
-nearer-none c zero = refl
-nearer-none c (suc d) = omega (arith, length-append {A = List ℕ} (nearer c [] d) [], nearer-none c d)
+outward-none : (c : List ℕ) (n : ℕ) → length (outward c [] n) ≡ 0
+unfolding outward flat
+outward-none c zero = refl
+outward-none c (suc d) = omega (arith, length-append {A = List ℕ} (outward c [] d) [], outward-none c d)
 
-pub nearer-length : (c : List ℕ) (ks : List (List ℕ)) (n : ℕ) → length (nearer c ks n) ≤ length ks
-nearer-length c [] n = omega (arith, nearer-none c n)
-nearer-length c (k ∷ ks) n = omega (arith, nearer-cons c k ks n, nearer-length c ks n, counts-most (far c k) n)
+pub outward-length : (c : List ℕ) (ks : List (List ℕ)) (n : ℕ) → length (outward c ks n) ≤ length ks
+outward-length c [] n = omega (arith, outward-none c n)
+outward-length c (k ∷ ks) n = omega (arith, outward-cons c k ks n, outward-length c ks n, counts-most (far c k) n)
 
 pub in-range-length : (lo hi : List ℕ) → Narrow lo hi → length (inRange lo hi) ≤ 1024
 unfolding inRange
@@ -91,7 +91,7 @@ in-range-length lo hi w =
 
 pub keys-length : (c lo hi : List ℕ) → Narrow lo hi → length (keysOf c lo hi) ≤ 1024
 unfolding keysOf
-keys-length c lo hi w = le-trans (nearer-length c (inRange lo hi) (suc (farthest c lo hi))) (in-range-length lo hi w)
+keys-length c lo hi w = le-trans (outward-length c (inRange lo hi) (suc (farthest c lo hi))) (in-range-length lo hi w)
 
 -- ---- which
 has-left : {k : List ℕ} (l m : List (List ℕ)) → Has k l → Has k (l ++ m)
@@ -140,13 +140,13 @@ module _ (lo hi : List ℕ) (p q r s t : ℕ) (P : Part 0 p lo hi) (Q : Part 1 q
 at-has : (c k : List ℕ) → Has k (atDistance c (far c k) k)
 at-has c k = rw (at-yes c k (far c k) refl) (here [])
 
-nearer-has : (c k : List ℕ) (ks : List (List ℕ)) (n : ℕ) → Has k ks → far c k < n → Has k (nearer c ks n)
-unfolding nearer
-nearer-has c k ks zero h p = absurd (omega arith)
-nearer-has c k ks (suc d) h p =
+outward-has : (c k : List ℕ) (ks : List (List ℕ)) (n : ℕ) → Has k ks → far c k < n → Has k (outward c ks n)
+unfolding outward
+outward-has c k ks zero h p = absurd (omega arith)
+outward-has c k ks (suc d) h p =
     elim (lt-or-le (far c k) d) [
-      | inl q ↦ has-left (nearer c ks d) (flat (atDistance c d) ks) (nearer-has c k ks d h q)
-      | inr q ↦ let e : far c k ≡ d = omega arith in has-right (nearer c ks d) (flat (atDistance c d) ks) (flat-has (atDistance c d) ks h (subst (λ (z : ℕ). Has k (atDistance c z k)) e (at-has c k)))
+      | inl q ↦ has-left (outward c ks d) (flat (atDistance c d) ks) (outward-has c k ks d h q)
+      | inr q ↦ let e : far c k ≡ d = omega arith in has-right (outward c ks d) (flat (atDistance c d) ks) (flat-has (atDistance c d) ks h (subst (λ (z : ℕ). Has k (atDistance c z k)) e (at-has c k)))
     ]
 
 apart-within : (c lo hi v : ℕ) → lo ≤ v → v ≤ hi → apart c v ≤ max (apart c lo) (apart c hi)
@@ -174,7 +174,7 @@ module _ (c lo hi : List ℕ) (p q r s t : ℕ) (P : Part 0 p lo hi) (Q : Part 1
   pub keys-has : p ≤ q → q ≤ r → r ≤ s → s ≤ t → Has (p ∷ q ∷ r ∷ s ∷ t ∷ []) (keysOf c lo hi)
   unfolding keysOf
   keys-has pq qr rs st =
-      nearer-has c (p ∷ q ∷ r ∷ s ∷ t ∷ []) (inRange lo hi) (suc (farthest c lo hi)) (in-range-has lo hi p q r s t P Q R S U pq qr rs st) (omega (arith, far-within))
+      outward-has c (p ∷ q ∷ r ∷ s ∷ t ∷ []) (inRange lo hi) (suc (farthest c lo hi)) (in-range-has lo hi p q r s t P Q R S U pq qr rs st) (omega (arith, far-within))
 
 pub has-some : {k : List ℕ} (l : List (List ℕ)) → Has k l → 0 < length l
 has-some l (here t) = omega arith

@@ -1,4 +1,4 @@
--- The keys in narrow ranges are near to one another: their squared distances are below 46, and so is no pass past that needed. Assumes nothing.
+-- The keys in narrow ranges are near to one another: their squared distances are below 46, and none past that need be looked at. Assumes nothing.
 use mathlib.Core.Path.{_≡_, refl, sym, ap, _∙_, subst}
 use Prim.Native.Nat.{ℕ, zero, suc, _+_, _-_, _≤_, _<_}
 use native.Mathlib.Omega.{arith}
@@ -6,11 +6,11 @@ use native.Mathlib.Nat.{mul-le-mul}
 use mathlib.Core.List.{List, [], _∷_, _++_, map, append-nil}
 use lib.ListN.{length, getD}
 use lib.Seq.{take-all}
-use Rattle.key_list.specs.Keys.{flat, inRange, apart, far, atDistance, nearer, farthest, keysOf}
-use Rattle.key_list.specs.Passes.{passes}
+use Rattle.key_list.specs.Keys.{flat, inRange, apart, far, atDistance, outward, farthest, keysOf}
+use Rattle.key_list.specs.ByDistance.{byDistance}
 use Rattle.key_list.specs.Listed.{Has, here, there, Listed}
 use Rattle.key_list.specs.Steps.{Narrow, Near}
-use Rattle.key_list.proofs.Lists.{at-no, nearer-more, passes-is}
+use Rattle.key_list.proofs.Lists.{at-no, outward-more, by-distance-is}
 use Rattle.key_list.proofs.Laws.{far-within}
 use Rattle.key_list.proofs.Exact.{in-range-from}
 
@@ -45,7 +45,7 @@ measured-near c lo hi dist n w l h m =
           omega (arith, m i k);
     }
 
--- ---- passes past the farthest key add none
+-- ---- distances past the farthest key add none
 none-at : (c : List ℕ) (d : ℕ) (ks : List (List ℕ)) → ((k : List ℕ) → Has k ks → far c k < d) → flat (atDistance c d) ks ≡ []
 unfolding flat
 none-at c d [] h = refl
@@ -53,31 +53,31 @@ none-at c d (k ∷ ks) h =
     let f = h k (here ks) in
     ap (λ (z : List (List ℕ)). z ++ flat (atDistance c d) ks) (at-no c k d (λ e. omega arith)) ∙ none-at c d ks (λ x g. h x (there k g))
 
-nearer-enough : (c : List ℕ) (ks : List (List ℕ)) (m n : ℕ) → ((k : List ℕ) → Has k ks → far c k < m) → nearer c ks (m + n) ≡ nearer c ks m
-nearer-enough c ks m zero h = let e : m + 0 ≡ m = omega arith in ap (nearer c ks) e
-nearer-enough c ks m (suc n) h =
+outward-enough : (c : List ℕ) (ks : List (List ℕ)) (m n : ℕ) → ((k : List ℕ) → Has k ks → far c k < m) → outward c ks (m + n) ≡ outward c ks m
+outward-enough c ks m zero h = let e : m + 0 ≡ m = omega arith in ap (outward c ks) e
+outward-enough c ks m (suc n) h =
     let e : m + suc n ≡ m + n + 1 = omega arith in
-    ap (nearer c ks) e
-    ∙ nearer-more c ks (m + n)
-    ∙ ap (λ (z : List (List ℕ)). nearer c ks (m + n) ++ z) (none-at c (m + n) ks (λ k g. let f = h k g in omega arith))
-    ∙ append-nil (nearer c ks (m + n))
-    ∙ nearer-enough c ks m n h
+    ap (outward c ks) e
+    ∙ outward-more c ks (m + n)
+    ∙ ap (λ (z : List (List ℕ)). outward c ks (m + n) ++ z) (none-at c (m + n) ks (λ k g. let f = h k g in omega arith))
+    ∙ append-nil (outward c ks (m + n))
+    ∙ outward-enough c ks m n h
 
 within : (c lo hi k : List ℕ) → Listed lo hi k → far c k ≤ farthest c lo hi
 within c lo hi k m = subst (λ (y : List ℕ). far c y ≤ farthest c lo hi) (sym (m .is)) (far-within c lo hi (m .p) (m .q) (m .r) (m .s) (m .t) (m .first) (m .second) (m .third) (m .fourth) (m .fifth))
 
-pub keys-near : (c lo hi : List ℕ) → Narrow lo hi → Listed lo hi c → nearer c (inRange lo hi) 46 ≡ keysOf c lo hi
+pub keys-near : (c lo hi : List ℕ) → Narrow lo hi → Listed lo hi c → outward c (inRange lo hi) 46 ≡ keysOf c lo hi
 unfolding keysOf
 keys-near c lo hi w l =
     let ks = inRange lo hi in
     let m = suc (farthest c lo hi) in
     let e : 46 + m ≡ m + 46 = omega arith in
-    sym (nearer-enough c ks 46 m (λ k g. far-near lo hi c k w l (in-range-from lo hi g)))
-    ∙ ap (nearer c ks) e
-    ∙ nearer-enough c ks m 46 (λ k g. let f = within c lo hi k (in-range-from lo hi g) in omega arith)
+    sym (outward-enough c ks 46 m (λ k g. far-near lo hi c k w l (in-range-from lo hi g)))
+    ∙ ap (outward c ks) e
+    ∙ outward-enough c ks m 46 (λ k g. let f = within c lo hi k (in-range-from lo hi g) in omega arith)
 
--- where a has f of each key in the ranges, and dist its distance from c, the passes give f of each key of the list
-pub passes-keys : (f : List ℕ → ℕ) (c lo hi a dist : List ℕ) (n : ℕ) → Narrow lo hi → Listed lo hi c → n ≡ length (inRange lo hi) → ((i : ℕ) → i < n → getD a i 0 ≡ f (getD (inRange lo hi) i []))
-    → ((i : ℕ) → i < n → getD dist i 0 ≡ far c (getD (inRange lo hi) i [])) → passes a dist n 46 ≡ map f (keysOf c lo hi)
-passes-keys f c lo hi a dist n w l e p q =
-    passes-is f c (inRange lo hi) a dist n 46 (omega arith) p q ∙ ap (λ (z : List (List ℕ)). map f (nearer c z 46)) (take-all n (inRange lo hi) (omega arith)) ∙ ap (map f) (keys-near c lo hi w l)
+-- where a has f of each key in the ranges, and dist its distance from c, the values by distance are f of each key of the list
+pub by-distance-keys : (f : List ℕ → ℕ) (c lo hi a dist : List ℕ) (n : ℕ) → Narrow lo hi → Listed lo hi c → n ≡ length (inRange lo hi) → ((i : ℕ) → i < n → getD a i 0 ≡ f (getD (inRange lo hi) i []))
+    → ((i : ℕ) → i < n → getD dist i 0 ≡ far c (getD (inRange lo hi) i [])) → byDistance a dist n 46 ≡ map f (keysOf c lo hi)
+by-distance-keys f c lo hi a dist n w l e p q =
+    by-distance-is f c (inRange lo hi) a dist n 46 (omega arith) p q ∙ ap (λ (z : List (List ℕ)). map f (outward c z 46)) (take-all n (inRange lo hi) (omega arith)) ∙ ap (map f) (keys-near c lo hi w l)

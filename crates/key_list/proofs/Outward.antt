@@ -8,7 +8,7 @@ use mathlib.Core.List.{List, [], _∷_, _++_}
 use lib.Dec.{T, eqb, eqb→eq}
 use lib.ListN.{length, getD, set, length-set}
 use lib.Seq.{getD-set-same, getD-set-other}
-use Rattle.key_list.specs.Keys.{flat, run, spread, level, start, inRange, apart, far, atDistance, nearer, farthest, keysOf}
+use Rattle.key_list.specs.Keys.{flat, run, spread, level, start, inRange, apart, far, atDistance, outward, farthest, keysOf}
 use Rattle.key_list.specs.Listed.{Has, here, there, Before, Precedes, Ordered, ordered-none, ordered}
 use Rattle.key_list.specs.Claims.{KeysOrdered, PrecedesAnother}
 use Rattle.key_list.proofs.Exact.{has-none, has-one, has-split, flat-from, run-from, spread-from}
@@ -126,25 +126,25 @@ same-distance c d ks o =
     (λ x x' y y' h h' b p p'. let e = at-far c d x p in let e' = at-far c d x' p' in
     inr (e .1 ∙ sym (e' .1), subst (λ (z : List ℕ). Before 5 z y') (sym (e .0)) (subst (λ (z : List ℕ). Before 5 x z) (sym (e' .0)) b)))
 
-below : (c : List ℕ) (ks : List (List ℕ)) (n : ℕ) {k : List ℕ} → Has k (nearer c ks n) → far c k < n
-unfolding nearer
+below : (c : List ℕ) (ks : List (List ℕ)) (n : ℕ) {k : List ℕ} → Has k (outward c ks n) → far c k < n
+unfolding outward
 below c ks zero h = absurd (has-none h)
 below c ks (suc d) {k} h =
-    elim (has-split (nearer c ks d) (flat (atDistance c d) ks) h) [
+    elim (has-split (outward c ks d) (flat (atDistance c d) ks) h) [
       | inl a ↦ omega (arith, below c ks d a)
       | inr b ↦ omega (arith, all-at c d ks b)
     ]
 
-nearer-ordered : (c : List ℕ) (ks : List (List ℕ)) (n : ℕ) → Ordered (Before 5) ks → Ordered (Precedes c) (nearer c ks n)
-unfolding nearer
-nearer-ordered c ks zero o = ordered-none
-nearer-ordered c ks (suc d) o =
-    joined (nearer c ks d) (flat (atDistance c d) ks) (nearer-ordered c ks d o) (same-distance c d ks o)
+outward-ordered : (c : List ℕ) (ks : List (List ℕ)) (n : ℕ) → Ordered (Before 5) ks → Ordered (Precedes c) (outward c ks n)
+unfolding outward
+outward-ordered c ks zero o = ordered-none
+outward-ordered c ks (suc d) o =
+    joined (outward c ks d) (flat (atDistance c d) ks) (outward-ordered c ks d o) (same-distance c d ks o)
     (λ x y a b. inl (omega (arith, below c ks d a, all-at c d ks b)))
 
 pub keys-ordered : KeysOrdered
 unfolding keysOf
-keys-ordered c lo hi = nearer-ordered c (inRange lo hi) (suc (farthest c lo hi)) (in-range-ordered lo hi)
+keys-ordered c lo hi = outward-ordered c (inRange lo hi) (suc (farthest c lo hi)) (in-range-ordered lo hi)
 
 -- ---- no key comes before itself, and none before the centre
 pub precedes-another : PrecedesAnother

@@ -45,9 +45,9 @@ unfoldable pub atDistance : List ℕ → ℕ → List ℕ → List (List ℕ)
 atDistance c d k = cond (eqb (far c k) d) (k ∷ []) []
 
 -- those of ks at squared distance 0, then those at 1, and so on below n
-unfoldable pub nearer : List ℕ → List (List ℕ) → ℕ → List (List ℕ)
-nearer c ks zero = []
-nearer c ks (suc d) = nearer c ks d ++ flat (atDistance c d) ks
+unfoldable pub outward : List ℕ → List (List ℕ) → ℕ → List (List ℕ)
+outward c ks zero = []
+outward c ks (suc d) = outward c ks d ++ flat (atDistance c d) ks
 
 -- how far a part in its range is from c at most, and so a key in the ranges
 unfoldable pub farther : ℕ → List ℕ → List ℕ → List ℕ → ℕ
@@ -58,4 +58,4 @@ farthest c lo hi = farther 0 c lo hi + farther 1 c lo hi + farther 2 c lo hi + f
 
 -- the keys in the ranges by squared distance to c, then lexicographically
 unfoldable pub keysOf : List ℕ → List ℕ → List ℕ → List (List ℕ)
-keysOf c lo hi = nearer c (inRange lo hi) (suc (farthest c lo hi))
+keysOf c lo hi = outward c (inRange lo hi) (suc (farthest c lo hi))

@@ -1,5 +1,5 @@
 pub mod Keys
 pub mod Listed
-pub mod Passes
+pub mod ByDistance
 pub mod Steps
 pub mod Claims

@@ -11,11 +11,11 @@ use Rattle.float_order.proofs.Order.{lt-or-le}
 use Rattle.key_hash.specs.Key.{hashOf, Parts}
 use Rattle.key_list.specs.Keys.{flat, run, spread, level, start, inRange, apart, far, keysOf}
 use Rattle.key_list.specs.Listed.{Listed}
-use Rattle.key_list.specs.Passes.{passes}
+use Rattle.key_list.specs.ByDistance.{byDistance}
 use Rattle.key_list.specs.Steps.{Narrow, Holds, Near}
 use Rattle.key_list.proofs.Lists.{flat-append, flat-one, run-more, run-length, spread-run}
 use Rattle.key_list.proofs.Laws.{in-range-length, keys-length}
-use Rattle.key_list.proofs.Near.{measured-near, passes-keys}
+use Rattle.key_list.proofs.Near.{measured-near, by-distance-keys}
 use Rattle.pattern_keys.specs.Steps.{Hashed}
 use Rattle.pattern_keys.specs.Walk.{first, second, third, fourth, fifth, Walked}
 
@@ -233,13 +233,13 @@ module _ (c lo hi : List ℕ) (B : ℕ) (w : Narrow lo hi) (l : Listed lo hi c) 
   pub walk-near : Near dist n
   walk-near = measured-near c lo hi dist n w l (omega (arith, walk-count)) dist-at
 
-  hashes-of : passes hashes dist n 46 ≡ map (λ (k : List ℕ). hashOf k B) (keysOf c lo hi)
-  hashes-of = passes-keys (λ (k : List ℕ). hashOf k B) c lo hi hashes dist n w l walk-count hash-at dist-at
+  hashes-of : byDistance hashes dist n 46 ≡ map (λ (k : List ℕ). hashOf k B) (keysOf c lo hi)
+  hashes-of = by-distance-keys (λ (k : List ℕ). hashOf k B) c lo hi hashes dist n w l walk-count hash-at dist-at
 
-  pub walk-passes : length (passes hashes dist n 46) ≤ 1024
-  walk-passes = omega (arith, ap length hashes-of, length-map (keysOf c lo hi) (λ (k : List ℕ). hashOf k B), keys-length c lo hi w)
+  pub walk-by-distance : length (byDistance hashes dist n 46) ≤ 1024
+  walk-by-distance = omega (arith, ap length hashes-of, length-map (keysOf c lo hi) (λ (k : List ℕ). hashOf k B), keys-length c lo hi w)
 
-  pub walk-hashed : (out : List ℕ) (r : ℕ) → Holds out r (passes hashes dist n 46) → Hashed out r (keysOf c lo hi) B
+  pub walk-hashed : (out : List ℕ) (r : ℕ) → Holds out r (byDistance hashes dist n 46) → Hashed out r (keysOf c lo hi) B
   walk-hashed out r s =
       let e : r ≡ length (keysOf c lo hi) = s .count ∙ ap length hashes-of ∙ length-map (keysOf c lo hi) (λ (k : List ℕ). hashOf k B) in
       record {

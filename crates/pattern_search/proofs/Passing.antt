@@ -21,7 +21,7 @@ use Rattle.search_feed.specs.Desk.{ForPass, ForFour}
 use Rattle.search_feed.specs.declared.Held.{Held}
 use Rattle.search_feed.proofs.Limits.{every-four-keyed}
 use Rattle.chains.specs.Chains.{stand}
-use Rattle.chains.specs.Quiet.{keyAt, Leads}
+use Rattle.chains.specs.Quiet.{atKey, Leads}
 use Rattle.chains.specs.declared.Stand.{Stand}
 use Rattle.chains.proofs.Quiets.{quiet-rest}
 use Rattle.chains.proofs.Standing.{stand-leads}
@@ -35,18 +35,18 @@ module _ (w : Walk) (p : Position) (s : Stand) (a : ℕ) where
   pub passed-none : s .left ≡ a → w ≡ passedOf w p s a
   passed-none e = sym (rw (eq-eqb (s .left) a e))
 
-  pub passed-some : (s .left ≡ a → ⊥) → (q : Position) → q ≡ keyAt p (s .key) (s .probe) → (n : ℕ) → n ≡ bump p (w .patterns) → record { next = goes q; patterns = n; reads = w .reads + (a - s .left) } ≡ passedOf w p s a
+  pub passed-some : (s .left ≡ a → ⊥) → (q : Position) → q ≡ atKey p (s .key) (s .probe) → (n : ℕ) → n ≡ bump p (w .patterns) → record { next = goes q; patterns = n; reads = w .reads + (a - s .left) } ≡ passedOf w p s a
   passed-some o q qe n ne = sym (rw (ne-eqb (s .left) a o, ← qe, ← ne))
 
   -- the walk is at the read that the way leads to, and the rest of the call is the same from there
   pub record Passes (D : Data) : Type 0 where
     pub fewer : s .left ≤ a
     pub room : w .reads + (a - s .left) ≤ 9223372036854775808
-    pub at : passedOf w p s a .next ≡ goes (keyAt p (s .key) (s .probe))
+    pub at : passedOf w p s a .next ≡ goes (atKey p (s .key) (s .probe))
     pub same : (st : State) → goesOn (feed D) (D .frame .config .cap) st (s .left) (passedOf w p s a) ≡ goesOn (feed D) (D .frame .config .cap) st a w
     pub good : Good (feed D) (D .frame .config .cap) (passedOf w p s a)
 
-  module _ (D : Data) (g : Good (feed D) (D .frame .config .cap) w) (e : w .next ≡ goes p) (keyed : Keyed (feed D)) (l : Leads (feed D) p a (s .left) (keyAt p (s .key) (s .probe))) where
+  module _ (D : Data) (g : Good (feed D) (D .frame .config .cap) w) (e : w .next ≡ goes p) (keyed : Keyed (feed D)) (l : Leads (feed D) p a (s .left) (atKey p (s .key) (s .probe))) where
     none-passed : s .left ≡ a → Passes D
     none-passed o =
         let t : passedOf w p s a ≡ w = sym (passed-none o) in
@@ -60,9 +60,9 @@ module _ (w : Walk) (p : Position) (s : Stand) (a : ℕ) where
 
     some-passed : s .left < a → Passes D
     some-passed h =
-        let t = passed-some (λ o. omega arith) (keyAt p (s .key) (s .probe)) refl (bump p (w .patterns)) refl in
+        let t = passed-some (λ o. omega arith) (atKey p (s .key) (s .probe)) refl (bump p (w .patterns)) refl in
         let q = l .some-made h (D .frame .config .cap) (w .patterns) in
-        let r = quiet-rest (feed D) (D .frame .config .cap) keyed (a - s .left) a (s .left) w (goes (keyAt p (s .key) (s .probe))) (bump p (w .patterns)) (w .reads + (a - s .left)) (omega (arith, l .fewer)) refl g (rw e q) in
+        let r = quiet-rest (feed D) (D .frame .config .cap) keyed (a - s .left) a (s .left) w (goes (atKey p (s .key) (s .probe))) (bump p (w .patterns)) (w .reads + (a - s .left)) (omega (arith, l .fewer)) refl g (rw e q) in
         record {
           fewer = l .fewer;
           room = omega (arith, r .1 .room .counted);
@@ -77,12 +77,12 @@ module _ (w : Walk) (p : Position) (s : Stand) (a : ℕ) where
 module _ (D : Data) (w : Walk) (p : Position) (h0 h : Held) (places places0 : List ℕ) (dirs dirs0 : List (List Float)) (hashes hashes0 : List ℕ) (y : Ready D w h0 places0 dirs0 hashes0) (e : w .next ≡ goes p) (f : ForPass (D .frame) (p .pass) h places dirs) (o : ForFour (D .frame) (p .pass) (p .four) h hashes) where
   -- the fast way through the keys of the desk
   module _ (a : ℕ) (s : Stand) (se : s ≡ stand (D .words) (D .packed) (D .stars) (D .slots) hashes (h .keys - (p .key + 1)) (p .key) (p .probe) a) where
-    leads : Leads (feed D) p a (s .left) (keyAt p (s .key) (s .probe))
+    leads : Leads (feed D) p a (s .left) (atKey p (s .key) (s .probe))
     unfolding feed
     leads =
         let n = here-of D w p h0 places0 dirs0 hashes0 y e in
         let k : p .key < h .keys = subst (λ x. p .key < x) (sym (o .held .count)) (n .key) in
-        subst (λ (t : Stand). Leads (feed D) p a (t .left) (keyAt p (t .key) (t .probe))) (sym se)
+        subst (λ (t : Stand). Leads (feed D) p a (t .left) (atKey p (t .key) (t .probe))) (sym se)
         (stand-leads D p hashes (h .keys) (o .held .count) (o .held .hash) (h .keys - (p .key + 1)) (p .key) (p .probe) a (omega arith) (n .probe))
 
     pub through-passes : Passes w p s a D

@@ -21,7 +21,7 @@ use Rattle.search_feed.specs.Look.{noCandidate}
 use Rattle.search_feed.specs.declared.Held.{Held}
 use Rattle.search_feed.specs.declared.Seen.{Seen}
 use Rattle.search_feed.specs.declared.Seen.the-variants.{Empty, Unsound, Passed, Found}
-use Rattle.chains.specs.Quiet.{keyAt}
+use Rattle.chains.specs.Quiet.{atKey}
 use Rattle.chains.specs.declared.Stand.{Stand}
 use Rattle.pattern_search.specs.Answers.{searched}
 use Rattle.pattern_search.specs.declared.Turn.{Turn}
@@ -57,7 +57,7 @@ toldOf Passed x w h st left = goingOn w h st left
 
 -- the walk after the reads that the fast way made
 abbrev pub passedOf : Walk → Position → Stand → ℕ → Walk
-passedOf w p s a = cond (eqb (s .left) a) w (record { next = goes (keyAt p (s .key) (s .probe)); patterns = bump p (w .patterns); reads = w .reads + (a - s .left) })
+passedOf w p s a = cond (eqb (s .left) a) w (record { next = goes (atKey p (s .key) (s .probe)); patterns = bump p (w .patterns); reads = w .reads + (a - s .left) })
 
 module _ (D : Data) where
   -- a call between two reads: the questions hold, the walk is good, and the desk holds what it says

@@ -1,16 +1,16 @@
 use lib.Bits.{bitAnd}
 use mathlib.Core.Path.{sym, ap}
 use mathlib.Core.Bool.{Bool, cond}
-use Rattle.key_codes.specs.Valid.{kept}
+use Rattle.key_codes.specs.Valid.{masked}
 use Rattle.key_codes.proofs.valid.keep.Statement.{statement}
 use Rattle.key_codes.proofs.valid.keep.Tie as tie
 
 returns : tie.Need-returns
-unfolding kept
+unfolding masked
 returns c = ap (λ (t : Bool). cond t (bitAnd (c .before .args .v) (c .before .args .mask)) (c .before .args .v)) (sym (c .if1 .taken))
 
 returns-2 : tie.Need-returns-2
-unfolding kept
+unfolding masked
 returns-2 c = ap (λ (t : Bool). cond t (bitAnd (c .before .args .v) (c .before .args .mask)) (c .before .args .v)) (sym (c .if1 .left))
 
 pub keep-spec : {M : Type 1} → statement M
