@@ -21,18 +21,18 @@ use Rattle.key_list.proofs.Lists.{at-yes, at-no, level-length}
 
 -- ---- how many
 -- 1 where a is below n, and else 0
-unfoldable counts : ℕ → ℕ → ℕ
+unfoldable pub counts : ℕ → ℕ → ℕ
 counts a n = cond (ltb a n) 1 0
 
-counts-yes : (a n : ℕ) → a < n → counts a n ≡ 1
+pub counts-yes : (a n : ℕ) → a < n → counts a n ≡ 1
 unfolding counts
 counts-yes a n h = ap (λ (b : Bool). cond b 1 0) (lt-ltb a n h)
 
-counts-no : (a n : ℕ) → n ≤ a → counts a n ≡ 0
+pub counts-no : (a n : ℕ) → n ≤ a → counts a n ≡ 0
 unfolding counts
 counts-no a n h = ap (λ (b : Bool). cond b 1 0) (le-ltb a n h)
 
-counts-most : (a n : ℕ) → counts a n ≤ 1
+pub counts-most : (a n : ℕ) → counts a n ≤ 1
 unfolding counts
 counts-most a n = go (ltb a n)
   where
@@ -82,11 +82,11 @@ in-range-length lo hi w =
     let l3 = level 3 lo hi l2 in
     omega (
       arith,
-      level-length 0 0 (getD lo 0 0) (getD hi 0 0) start (w .first .0),
-      level-length 0 1 (getD lo 1 0) (getD hi 1 0) l0 (w .second .0),
-      level-length 1 2 (getD lo 2 0) (getD hi 2 0) l1 (w .third .0),
-      level-length 2 3 (getD lo 3 0) (getD hi 3 0) l2 (w .fourth .0),
-      level-length 3 4 (getD lo 4 0) (getD hi 4 0) l3 (w .fifth .0),
+      level-length 0 0 (getD lo 0 0) (getD hi 0 0) start (w .first),
+      level-length 0 1 (getD lo 1 0) (getD hi 1 0) l0 (w .second),
+      level-length 1 2 (getD lo 2 0) (getD hi 2 0) l1 (w .third),
+      level-length 2 3 (getD lo 3 0) (getD hi 3 0) l2 (w .fourth),
+      level-length 3 4 (getD lo 4 0) (getD hi 4 0) l3 (w .fifth),
     )
 
 pub keys-length : (c lo hi : List ℕ) → Narrow lo hi → length (keysOf c lo hi) ≤ 1024

@@ -25,11 +25,11 @@ far-near lo hi c k w l m =
     rw (l .is, m .is)
     (omega (
       arith,
-      nine (l .p) (m .p) (getD lo 0 0) (getD hi 0 0) (l .first) (m .first) (w .first .0),
-      nine (l .q) (m .q) (getD lo 1 0) (getD hi 1 0) (l .second) (m .second) (w .second .0),
-      nine (l .r) (m .r) (getD lo 2 0) (getD hi 2 0) (l .third) (m .third) (w .third .0),
-      nine (l .s) (m .s) (getD lo 3 0) (getD hi 3 0) (l .fourth) (m .fourth) (w .fourth .0),
-      nine (l .t) (m .t) (getD lo 4 0) (getD hi 4 0) (l .fifth) (m .fifth) (w .fifth .0),
+      nine (l .p) (m .p) (getD lo 0 0) (getD hi 0 0) (l .first) (m .first) (w .first),
+      nine (l .q) (m .q) (getD lo 1 0) (getD hi 1 0) (l .second) (m .second) (w .second),
+      nine (l .r) (m .r) (getD lo 2 0) (getD hi 2 0) (l .third) (m .third) (w .third),
+      nine (l .s) (m .s) (getD lo 3 0) (getD hi 3 0) (l .fourth) (m .fourth) (w .fourth),
+      nine (l .t) (m .t) (getD lo 4 0) (getD hi 4 0) (l .fifth) (m .fifth) (w .fifth),
     ))
 
 pub has-at : (l : List (List ℕ)) (i : ℕ) → i < length l → Has (getD l i []) l

@@ -51,11 +51,8 @@ module _ (r e : Float) (B : ℕ) (i : Ratio r) (t : NarrowTolerance e B) where
   pub low-bound : lowOf r e B ≤ B
   low-bound = le-trans low-image (part-below r B i (t .some-bins) (t .few-bins))
 
-  pub range-narrow : (highOf r e B ≤ lowOf r e B + 3) × (highOf r e B < 65535)
-  range-narrow = (at-most-four-values r e B R (t .held) (i .unit .low) (i .unit .high) (t .low) (t .some-bins) (t .few-bins) (t .product), within (highOf r e B) B high-bound (t .few-bins))
-    where
-      within : (h b : ℕ) → h ≤ b → b ≤ 4096 → h < 65535
-      within h b p q = omega arith
+  pub range-narrow : highOf r e B ≤ lowOf r e B + 3
+  range-narrow = at-most-four-values r e B R (t .held) (i .unit .low) (i .unit .high) (t .low) (t .some-bins) (t .few-bins) (t .product)
 
 -- every part has at most 4 values
 pub ranges-narrow : (r : List Float) (e : Float) (B : ℕ) → Ratios r → NarrowTolerance e B → Narrow (lowerOf r e B) (upperOf r e B)

@@ -236,9 +236,6 @@ module _ (c lo hi : List ℕ) (B : ℕ) (w : Narrow lo hi) (l : Listed lo hi c) 
   hashes-of : byDistance hashes dist n 46 ≡ map (λ (k : List ℕ). hashOf k B) (keysOf c lo hi)
   hashes-of = by-distance-keys (λ (k : List ℕ). hashOf k B) c lo hi hashes dist n w l walk-count hash-at dist-at
 
-  pub walk-by-distance : length (byDistance hashes dist n 46) ≤ 1024
-  walk-by-distance = omega (arith, ap length hashes-of, length-map (keysOf c lo hi) (λ (k : List ℕ). hashOf k B), keys-length c lo hi w)
-
   pub walk-hashed : (out : List ℕ) (r : ℕ) → Holds out r (byDistance hashes dist n 46) → Hashed out r (keysOf c lo hi) B
   walk-hashed out r s =
       let e : r ≡ length (keysOf c lo hi) = s .count ∙ ap length hashes-of ∙ length-map (keysOf c lo hi) (λ (k : List ℕ). hashOf k B) in
