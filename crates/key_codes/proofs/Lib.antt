@@ -5,3 +5,4 @@ pub mod Doubling
 pub mod Puts
 pub mod Image
 pub mod Cuts
+pub mod Two

@@ -1,13 +1,12 @@
 // The ends of the ranges of a key's parts.
 ghost use mathlib.Core.Path.{_≡_};
-ghost use mathlib.Core.Bool.{true};
 ghost use Prim.Native.Nat.{_+_, _-_, _≤_};
 ghost use Rattle.float_order.specs.Ratios.{Ratio, Ratios};
 ghost use Rattle.float_order.specs.KeyPart.{partOf, lowOf, highOf};
 ghost use Rattle.key_hash.specs.Key.{keyOf};
 ghost use Rattle.pattern_keys.specs.Ranges.{lowerOf, upperOf};
 ghost use Rattle.float_order.specs.KeyPart.{NarrowTolerance};
-ghost use Rattle.key_codes.specs.Codes.{Two};
+ghost use Rattle.key_codes.specs.Codes.{pairOf, twoAtMost};
 
 // The number before k, or 0.
 fn before(k: u32) -> u32
@@ -74,7 +73,7 @@ pub fn upper(r: [f32; 5], e: f32, bins: u32, c: [u32; 5]) -> [u32; 5]
 
 // Whether a range has at most two values.
 fn pair(lo: u32, hi: u32) -> bool
-    ensures { λ b. ⌜ (b ≡ true → hi ≤ lo + 1) ⌝ }
+    ensures { λ b. ⌜ b ≡ pairOf lo hi ⌝ }
 {
     if hi <= lo {
         return true;
@@ -84,7 +83,7 @@ fn pair(lo: u32, hi: u32) -> bool
 
 // Whether every part has at most two values.
 pub fn at_most_two(lo: [u32; 5], hi: [u32; 5]) -> bool
-    ensures { λ b. ⌜ (b ≡ true → Two lo hi) ⌝ }
+    ensures { λ b. ⌜ b ≡ twoAtMost lo hi ⌝ }
 {
     if !pair(lo[0], hi[0]) {
         return false;

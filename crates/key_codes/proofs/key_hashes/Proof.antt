@@ -1,6 +1,8 @@
+use mathlib.Core.Path.{sym, _∙_}
 use Rattle.pattern_keys.specs.Ranges.{keysFor}
 use Rattle.pattern_keys.proofs.Ranges.{ranges-narrow, image-in-ranges, upper-parts}
 use Rattle.key_codes.proofs.Image.{image-pairs}
+use Rattle.key_codes.proofs.Two.{two-of}
 use borrow.Author.Needs.{needs}
 use Rattle.key_codes.proofs.key_hashes.Statement.{statement}
 use Rattle.key_codes.proofs.key_hashes.Tie as tie
@@ -23,7 +25,7 @@ two-values-requires c κs =
     let key = c .before .before .before .before .before .compute-pattern-key .ensures in
     let lo = c .before .before .before .before .lower .ensures in
     let hi = c .before .before .before .upper .ensures in
-    let w = c .before .before .at-most-two .ensures (c .before .if1 .taken) in
+    let w = two-of _ _ (sym (c .before .before .at-most-two .ensures) ∙ c .before .if1 .taken) in
     (rw (lo, hi, key) (image-pairs (s .args .r) (s .args .e) (s .args .bins) (s .pre .0) (s .pre .1) (rw (lo, hi) at w)), s .pre .2)
 
 returns : tie.Need-returns
