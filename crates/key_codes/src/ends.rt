@@ -1,6 +1,6 @@
 // The ends of the ranges of a key's parts.
 ghost use mathlib.Core.Path.{_≡_};
-ghost use Prim.Native.Nat.{_+_, _-_, _≤_};
+ghost use Prim.Native.Nat.{_+_, _-_};
 ghost use Rattle.float_order.specs.Ratios.{Ratio, Ratios};
 ghost use Rattle.float_order.specs.KeyPart.{partOf, lowOf, highOf};
 ghost use Rattle.key_hash.specs.Key.{keyOf};

@@ -1,12 +1,12 @@
 -- The keys of five ratios: each part has from 1 to 4 values, none above bins, and the image key is in the list, as the first. Assumes nothing.
-use mathlib.Core.Path.{_≡_, refl, sym, ap, _∙_, subst}
-use Prim.Native.Nat.{ℕ, zero, suc, _+_, _^_, _≤_, _<_}
+use mathlib.Core.Path.{_≡_, refl, sym, subst}
+use Prim.Native.Nat.{ℕ, _+_, _^_, _≤_, _<_}
 use native.Mathlib.Omega.{arith}
 use native.Mathlib.Nat.{le-trans}
-use mathlib.Core.List.{List, [], _∷_}
+use mathlib.Core.List.{List, []}
 use lib.IntN.{pos}
 use lib.Dec.{T, le→leb, lit≤}
-use lib.ListN.{length, getD}
+use lib.ListN.{getD}
 use lib.Ieee.{Float, nan, binary32, inFloat}
 use lib.Ieee.Scale.{finite}
 use Rattle.float_order.specs.Value.{zero32, one32}
@@ -15,8 +15,8 @@ use Rattle.float_order.specs.Ratios.{Ratio, Ratios}
 use Rattle.float_order.proofs.KeyParts.{image-part-in-range, upper-at-most}
 use Rattle.float_order.proofs.PartWidth.{at-most-four-values}
 use Rattle.float_order.proofs.Intervals.{in-finite}
-use Rattle.key_hash.specs.Key.{keyOf, hashOf, Parts}
-use Rattle.key_hash.proofs.Keys.{part-below, key-rises, key-parts as image-parts}
+use Rattle.key_hash.specs.Key.{keyOf, Parts}
+use Rattle.key_hash.proofs.Keys.{part-below, key-rises}
 use Rattle.key_list.specs.Steps.{Narrow}
 use Rattle.pattern_keys.specs.Ranges.{lowerOf, upperOf, keysFor}
 use Rattle.key_list.specs.Listed.{Has, here, there, Listed, Precedes, Ordered, ordered}

@@ -4,17 +4,17 @@ use mathlib.Core.Logic.{_⊎_, inl, inr}
 use Prim.Native.Nat.{ℕ, zero, suc, _+_, _-_, _*_, _≤_, _<_, max}
 use native.Mathlib.Omega.{arith}
 use native.Mathlib.Nat.{le-trans, mul-le-mul}
-use mathlib.Core.List.{List, [], _∷_, _++_, map, append-assoc, append-nil}
-use lib.ListN.{length, getD, take, set, length-set, length-append, length-map, List·getD-append, List·getD-map}
-use lib.Seq.{getD-set-same, getD-set-other, getD-append-seam, getD-append-add, getD-take}
+use mathlib.Core.List.{List, [], _∷_, _++_, map}
+use lib.ListN.{length, getD, set, length-set, length-append, length-map, List·getD-append}
+use lib.Seq.{getD-set-same, getD-set-other, getD-append-add, getD-take}
 use Rattle.float_order.proofs.Order.{lt-or-le}
 use Rattle.key_hash.specs.Key.{hashOf, Parts}
-use Rattle.key_list.specs.Keys.{flat, run, spread, level, start, inRange, apart, far, keysOf}
+use Rattle.key_list.specs.Keys.{flat, run, spread, start, inRange, apart, far, keysOf}
 use Rattle.key_list.specs.Listed.{Listed}
 use Rattle.key_list.specs.ByDistance.{byDistance}
 use Rattle.key_list.specs.Steps.{Narrow, Holds, Near}
-use Rattle.key_list.proofs.Lists.{flat-append, flat-one, run-more, run-length, spread-run}
-use Rattle.key_list.proofs.Laws.{in-range-length, keys-length}
+use Rattle.key_list.proofs.Lists.{flat-append, flat-one, run-more, spread-run}
+use Rattle.key_list.proofs.Laws.{in-range-length}
 use Rattle.key_list.proofs.Near.{measured-near, by-distance-keys}
 use Rattle.pattern_keys.specs.Steps.{Hashed}
 use Rattle.pattern_keys.specs.Walk.{first, second, third, fourth, fifth, Walked}
