@@ -1,5 +1,5 @@
 -- The order of the 32 codes around each code: by the number of parts that differ, then by code. Definitions only; that the order is
--- just this is proved in proofs/Order.antt by computing.
+-- just this is proved in proofs/Around.antt by computing.
 use Prim.Native.Nat.{ℕ, zero, suc, _-_, _/_, _%_}
 use mathlib.Core.List.{List, [], _∷_, _++_}
 use lib.ListN.{getD}
@@ -19,7 +19,8 @@ unfoldable pub twos : List ℕ
 twos =
     867052305029283 ∷ 903369509313666 ∷ 939653426584705 ∷ 975904056842400 ∷ 1010090892336193 ∷ 1046341522593888 ∷ 1081526968456288 ∷ 1115647229923393 ∷ 1014626377896001 ∷ 1050877008090208 ∷ 1086062453889120 ∷ 1120182715292737 ∷ 1088263622531232 ∷ 1122383883934849 ∷ 1122419283860610 ∷ 1088369822308515 ∷ 1014633061421121 ∷ 1050883624572000 ∷ 1086067995646048 ∷ 1120186174643265 ∷ 1088266951858336 ∷ 1122385130855553 ∷ 1122418416884866 ∷ 1088366809946275 ∷ 1088366809852192 ∷ 1122418416856321 ∷ 1122385130892546 ∷ 1088266951960867 ∷ 1120186174747908 ∷ 1086067995816229 ∷ 1050883624776006 ∷ 1014633061627239 ∷ []
 
--- the codes around c: those that differ in four, three and no parts of five differ from the opposite code in one, two and all
+-- the codes around c: c itself, those that differ from it in one part and in two, then those that differ from it in three, in four and
+-- in all five, which differ from the opposite code, 31 - c, in two, in one and in none
 unfoldable pub orderOf : ℕ → List ℕ
 orderOf c =
     unpack c 1 ++ (unpack (getD ones c 0) 5 ++ (unpack (getD twos c 0) 10 ++ (unpack (getD twos (31 - c) 0) 10 ++ (unpack (getD ones (31 - c) 0) 5 ++ unpack (31 - c) 1))))

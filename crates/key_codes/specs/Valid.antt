@@ -23,6 +23,7 @@ rangedOf lo hi =
 abbrev pub level : ℕ → List ℕ → ℕ → ℕ → ℕ
 level i lo mask v = masked v (eqb (getD lo i 0) (getD lo (suc i) 0)) mask
 
--- of these the codes in which no part is one above its lower end, and the next at the same lower end
+-- of these the codes whose parts never fall: where two neighbouring parts have the same lower end, not the left one above it and the
+-- right one at it
 unfoldable pub validOf : List ℕ → List ℕ → ℕ
 validOf lo hi = level 3 lo 0xbbbbbbbb (level 2 lo 0xcfcfcfcf (level 1 lo 0xf0fff0ff (level 0 lo 0xff00ffff (rangedOf lo hi))))

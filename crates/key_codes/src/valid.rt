@@ -20,7 +20,8 @@ fn in_ranges(lo: [u32; 5], hi: [u32; 5]) -> u32
     keep(t, lo[4] == hi[4], 0x5555_5555)
 }
 
-// Of these the codes in which no part is one above its lower end, and the next at the same lower end.
+// Of these the codes whose parts never fall: where two neighbouring parts have the same lower end, not the left one above it and the
+// right one at it.
 pub fn codes_in(lo: [u32; 5], hi: [u32; 5]) -> u32
     ensures { λ r. ⌜ r ≡ validOf lo hi ⌝ }
 {

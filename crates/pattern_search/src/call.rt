@@ -102,18 +102,21 @@ fn wait(st: State, next: Next) -> Searched
     }
 }
 
+// Room for the places that a pass keeps, at most 64.
 fn no_places() -> [u32; 64]
     ensures { λ r. ⌜ length r ≡ 64 ⌝ }
 {
     [0u32; 64]
 }
 
+// Room for their directions.
 fn no_dirs() -> [[f32; 3]; 64]
     ensures { λ r. ⌜ length r ≡ 64 ⌝ }
 {
     [[0.0f32; 3]; 64]
 }
 
+// Room for the hashes of a combination's keys, at most 1,024.
 fn no_hashes() -> [u64; 1024]
     ensures { λ r. ⌜ length r ≡ 1024 ⌝ }
 {

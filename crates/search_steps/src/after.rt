@@ -27,6 +27,7 @@ pub enum Begin {
     Over(Status),
 }
 
+// How a pass begins whose thinning kept so many: below 4 is TooFew, a table without slots or patterns is NoMatch.
 fn begin_pass(kept: u32, slots: u64, patterns: u64) -> Begin
     requires { ⌜ kept ≤ 64 ⌝ }
     ensures { λ r. ⌜ r ≡ beginOf kept slots patterns ⌝ }

@@ -15,12 +15,14 @@ pub fn frame_line(places: &[u32], triples: &[f32]) {
     count(triples.len() as u64 / 3, b" pass\n", b" passes\n");
 }
 
+// Room for the places that a pass keeps, at most 64.
 fn no_places() -> [u32; 64]
     ensures { λ r. ⌜ length r ≡ 64 ⌝ }
 {
     [0u32; 64]
 }
 
+// Room for their directions.
 fn no_dirs() -> [[f32; 3]; 64]
     ensures { λ r. ⌜ length r ≡ 64 ⌝ }
 {
