@@ -98,18 +98,19 @@ rise : (b : Bool) (k n : ℕ) (x : Float) → le (bins32 (k + 1)) x ≡ b → k 
 rise true k n x t h e l = let s = reaches (k + 1) x (omega arith) (is-true t) in omega arith
 rise false k n x t h e l = omega arith
 
+-- the image's part or the one after it, whatever x is
+pub next-small : (r e : Float) (B k : ℕ) (x : Float) → Ratio r → NarrowTolerance e B → k ≡ partOf r B → k + boolByte (le (bins32 (k + 1)) x) ≤ 4097
+next-small r e B k x i t p = let h = part-small r e B k i t p in let b = byte-most (le (bins32 (k + 1)) x) in omega arith
+
 module _ (r e : Float) (B k : ℕ) (x : Float) (i : Ratio r) (t : NarrowTolerance e B) (p : k ≡ partOf r B) (f : x ≡ smaller (mul binary32 (add binary32 r e) (bins32 B)) (bins32 B)) where
   cut-high : toUnsigned 32 x ≡ highOf r e B
   cut-high = ap (toUnsigned 32) f
-
-  pub next-small : k + boolByte (le (bins32 (k + 1)) x) ≤ 4097
-  next-small = let h = part-small r e B k i t p in let b = byte-most (le (bins32 (k + 1)) x) in omega arith
 
   pub high-near : le (bins32 (k + boolByte (le (bins32 (k + 1)) x) + 1)) x ≡ false → k + boolByte (le (bins32 (k + 1)) x) ≡ highOf r e B
   high-near h =
       let n = k + boolByte (le (bins32 (k + 1)) x) in
       let least : n ≤ toUnsigned 32 x = rise (le (bins32 (k + 1)) x) k n x refl (part-small r e B k i t p) refl (subst (λ (z : ℕ). z ≤ toUnsigned 32 x) (sym p) (subst (λ (z : ℕ). partOf r B ≤ z) (sym cut-high) (image-high r e B i t))) in
-      let s = next-small in
+      let s = next-small r e B k x i t p in
       let most = short (n + 1) x (omega arith) (omega arith) (not-so h) in
       meet n (toUnsigned 32 x) (highOf r e B) least most cut-high
     where

@@ -25,13 +25,13 @@ cast-n : tie.Need-cast-n
 cast-n c = search needs
 
 add-n-2 : tie.Need-add-n-2
-add-n-2 c = let s = c .before .before .before in let h = next-small (s .args .r) (s .args .e) (s .args .bins) (s .args .k) (c .before .smaller .result) (s .pre .0) (s .pre .1) (s .pre .2) (c .before .smaller .ensures) in record { fits = omega arith }
+add-n-2 c = let s = c .before .before .before in let h = next-small (s .args .r) (s .args .e) (s .args .bins) (s .args .k) (c .before .smaller .result) (s .pre .0) (s .pre .1) (s .pre .2) in record { fits = omega arith }
 
 add-if1 : tie.Need-add-if1
-add-if1 c = let s = c .before .before .before in let h = next-small (s .args .r) (s .args .e) (s .args .bins) (s .args .k) (c .before .smaller .result) (s .pre .0) (s .pre .1) (s .pre .2) (c .before .smaller .ensures) in record { fits = omega arith }
+add-if1 c = let s = c .before .before .before in let h = next-small (s .args .r) (s .args .e) (s .args .bins) (s .args .k) (c .before .smaller .result) (s .pre .0) (s .pre .1) (s .pre .2) in record { fits = omega arith }
 
 int-to-float-if1 : tie.Need-int-to-float-if1
-int-to-float-if1 c = let s = c .before .before .before .before in exact (s .args .k + boolByte (le (bins32 (s .args .k + 1)) (c .before .before .smaller .result)) + 1) (omega (arith, next-small (s .args .r) (s .args .e) (s .args .bins) (s .args .k) (c .before .before .smaller .result) (s .pre .0) (s .pre .1) (s .pre .2) (c .before .before .smaller .ensures)))
+int-to-float-if1 c = let s = c .before .before .before .before in exact (s .args .k + boolByte (le (bins32 (s .args .k + 1)) (c .before .before .smaller .result)) + 1) (omega (arith, next-small (s .args .r) (s .args .e) (s .args .bins) (s .args .k) (c .before .before .smaller .result) (s .pre .0) (s .pre .1) (s .pre .2)))
 
 truncate-requires : tie.Need-truncate-requires
 truncate-requires c κs = search needs
