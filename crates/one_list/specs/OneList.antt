@@ -60,10 +60,10 @@ odd =
       stars = [];
     }
 
--- three calls: with 5 reads, with what question 1 refuses, with 7 reads
+-- three calls: with 1 read, with what question 1 refuses, with 7 reads; the third goes on where the first left off
 abbrev pub calls : List Given
 calls =
-    record { data-of = sample; allowance = 5 }
+    record { data-of = sample; allowance = 1 }
     ∷ record { data-of = odd; allowance = 5 }
     ∷ record { data-of = sample; allowance = 7 }
     ∷ []
