@@ -23,6 +23,7 @@ use Rattle.pattern_catalog.proofs.Slots.{in-place}
 use Rattle.search_feed.proofs.Looks.{is-empty, is-refused, outside-short}
 use Rattle.chains.specs.Glances.{SoundBelow, soundStars, askedStars, passesBy, glanceOf}
 use Rattle.chains.specs.declared.Known.{Known}
+use Rattle.chains.specs.declared.Glimpse.{Glimpse}
 use Rattle.chains.specs.declared.Glance.{Glance}
 use Rattle.chains.specs.declared.Glance.the-variants.{Empty, Passed, Stop}
 
@@ -102,6 +103,20 @@ below-sound stars n s e l h =
 
 -- ---- the slot, by what `find_in` says
 module _ (words packed : List ℕ) (stars : List Float) (mark slot : ℕ) (f : Found) (fe : foundSays f ≡ slotIn words packed slot) where
+  -- what a glimpse has to say
+  abbrev pub Shown : Glimpse → Type 0
+  Shown r = (r .glance ≡ glanceOf words packed stars mark slot) × (r .glance ≡ Passed → (r .place ≡ place words slot) × (r .place < length packed / 22))
+
+  -- one that passes over no entry has no place to tell
+  plain : (g : Glance) (p : ℕ) → (g ≡ Passed → ⊥) → g ≡ glanceOf words packed stars mark slot → (r : Glimpse) → r ≡ record { glance = g; place = p } → Shown r
+  plain g p n ge r re = (ap (λ (x : Glimpse). x .glance) re ∙ ge, λ h. absurd (n (sym (ap (λ (x : Glimpse). x .glance) re) ∙ h)))
+
+  empty-not : Empty ≡ Passed → ⊥
+  empty-not h = let z : _≡_ {A = ℕ} 0 1 = cc (h) in absurd (omega arith)
+
+  stop-not : Stop ≡ Passed → ⊥
+  stop-not h = let z : _≡_ {A = ℕ} 0 1 = cc (h) in absurd (omega arith)
+
   pub glance-empty : f ≡ Found.Empty → Empty ≡ glanceOf words packed stars mark slot
   unfolding glanceOf
   glance-empty e = sym (rw (is-empty words packed slot (sym fe ∙ ap foundSays e)))
@@ -111,6 +126,12 @@ module _ (words packed : List ℕ) (stars : List Float) (mark slot : ℕ) (f : F
   glance-refused n e =
       let r = is-refused words packed slot n (sym fe ∙ ap foundSays e) in
       sym (rw (r .0, outside-short packed (place words slot) stars (r .1)))
+
+  pub show-empty : f ≡ Found.Empty → (r : Glimpse) → r ≡ record { glance = Empty; place = 0 } → Shown r
+  show-empty e = plain Empty 0 empty-not (glance-empty e)
+
+  pub show-refused : (n : ℕ) → f ≡ Found.Refused n → (r : Glimpse) → r ≡ record { glance = Stop; place = 0 } → Shown r
+  show-refused n e = plain Stop 0 stop-not (glance-refused n e)
 
   module _ (p : ℕ) (e : f ≡ Found.At p) where
     pub glance-inside : p * 22 + 22 ≤ length packed
@@ -124,3 +145,12 @@ module _ (words packed : List ℕ) (stars : List Float) (mark slot : ℕ) (f : F
       pub glance-stop : b ≡ false → Stop ≡ glanceOf words packed stars mark slot
       unfolding glanceOf
       glance-stop t = let r = in-place words packed slot p (sym fe ∙ ap foundSays e) in sym (rw (r .0, ← r .1, ← be, t))
+
+      pub show-stop : b ≡ false → (r : Glimpse) → r ≡ record { glance = Stop; place = p } → Shown r
+      show-stop t = plain Stop p stop-not (glance-stop t)
+
+      pub show-passed : b ≡ true → (r : Glimpse) → r ≡ record { glance = Passed; place = p } → Shown r
+      show-passed t r re =
+          let i = in-place words packed slot p (sym fe ∙ ap foundSays e) in
+          let q : r .place ≡ p = ap (λ (x : Glimpse). x .place) re in
+          (ap (λ (x : Glimpse). x .glance) re ∙ glance-passed t, λ h. (q ∙ i .1, omega (arith, q, i .2)))

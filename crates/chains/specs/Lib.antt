@@ -1,3 +1,4 @@
 pub mod Glances
 pub mod Chains
+pub mod Onward
 pub mod Quiet

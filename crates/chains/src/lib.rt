@@ -1,13 +1,16 @@
 // The fast way over reads that give nothing: along a key's chain, then key after key of a combination. It goes in front of the
 // single read, which asks and answers everything; what it passes over is sound and gives no candidate.
 ghost use mathlib.Core.Path.{_≡_};
-ghost use mathlib.Core.Bool.{true};
+ghost use mathlib.Core.Bool.{true, false};
 ghost use Prim.Native.Nat.{_+_, _-_, _*_, _/_, _≤_, _<_};
 ghost use lib.ListN.{length, getD};
-ghost use Rattle.table_blocks.specs.Blocks.{tableFits};
+ghost use Rattle.table_blocks.specs.Blocks.{tableFits, place};
+ghost use Rattle.pattern_catalog.specs.SlotRead.{PlaceKnown};
+ghost use Rattle.key_hash.specs.Key.{homeOf};
 ghost use Rattle.pattern_entry.specs.Entry.{bytesAt};
 ghost use Rattle.chains.specs.Glances.{SoundBelow, askedStars, passesBy, glanceOf};
 ghost use Rattle.chains.specs.Chains.{along, stand};
+ghost use Rattle.chains.specs.Onward.{Ahead, Onward};
 ghost use Rattle.chains.specs.Quiet.{atKey};
 use pattern_catalog::Found;
 use undivided_run::Position;
@@ -19,6 +22,12 @@ pub enum Glance {
     Stop,
 }
 
+// A glance, and the place of the entry that it passed over.
+pub struct Glimpse {
+    pub glance: Glance,
+    pub place: u64,
+}
+
 // How far a chain went: over it (the read at `probe` is its last, and made), or up to `probe`, which is not read.
 pub struct Along {
     pub over: bool,
@@ -28,6 +37,14 @@ pub struct Along {
 
 // The key and probe of a combination that reads without a candidate lead to, and what is left of the allowance.
 pub struct Stand {
+    pub key: u32,
+    pub probe: u32,
+    pub left: u64,
+}
+
+// On to a key's first probe, or no further than a key and probe; and what is left of the allowance.
+pub struct Over {
+    pub on: bool,
     pub key: u32,
     pub probe: u32,
     pub left: u64,
@@ -90,7 +107,42 @@ fn passes_by(packed: &[u8], stars: &[f32], sound: u32, mark: u16, place: u64) ->
     pattern_entry::entry_sound_at(stars, packed, place)
 }
 
-// A slot at a glance.
+fn told(glance: Glance, place: u64) -> Glimpse
+    ensures { λ r. ⌜ r ≡ record { glance = glance; place = place } ⌝ }
+{
+    Glimpse { glance, place }
+}
+
+fn way(over: bool, probe: u32, left: u64) -> Along
+    ensures { λ r. ⌜ r ≡ record { over = over; probe = probe; left = left } ⌝ }
+{
+    Along { over, probe, left }
+}
+
+fn stay(key: u32, probe: u32, left: u64) -> Over
+    ensures { λ r. ⌜ r ≡ record { on = false; key = key; probe = probe; left = left } ⌝ }
+{
+    Over {
+        on: false,
+        key,
+        probe,
+        left,
+    }
+}
+
+// On to the first probe of a key.
+fn on_to(key: u32, left: u64) -> Over
+    ensures { λ r. ⌜ r ≡ record { on = true; key = key; probe = 0; left = left } ⌝ }
+{
+    Over {
+        on: true,
+        key,
+        probe: 0,
+        left,
+    }
+}
+
+// A slot at a glance, with the place of its entry where that is passed over. The place of slot `from`, if not past this one, is known.
 fn look_over(
     words: &[u64],
     packed: &[u8],
@@ -98,18 +150,20 @@ fn look_over(
     sound: u32,
     mark: u16,
     slot: u64,
-) -> Glance
-    requires { ⌜ (slot / 448 * 8 + 8 ≤ length (now words)) × SoundBelow (now stars) sound ⌝ }
-    ensures { λ r. ⌜ r ≡ glanceOf (now (words .entry)) (now (packed .entry)) (now (stars .entry)) mark slot ⌝ }
+    from: u64,
+    there: u64,
+) -> Glimpse
+    requires { ⌜ (slot / 448 * 8 + 8 ≤ length (now words)) × SoundBelow (now stars) sound × PlaceKnown (now words) (length (now packed) / 22) slot from there ⌝ }
+    ensures { λ r. ⌜ (r .glance ≡ glanceOf (now (words .entry)) (now (packed .entry)) (now (stars .entry)) mark slot) × (r .glance ≡ Glance.Passed → (r .place ≡ place (now (words .entry)) slot) × (r .place < length (now (packed .entry)) / 22)) ⌝ }
 {
-    match pattern_catalog::find_in(words, packed, slot) {
-        Found::Empty => Glance::Empty,
-        Found::Refused(_) => Glance::Stop,
+    match pattern_catalog::find_near(words, packed, slot, from, there) {
+        Found::Empty => told(Glance::Empty, 0),
+        Found::Refused(_) => told(Glance::Stop, 0),
         Found::At(place) => {
             if passes_by(packed, stars, sound, mark, place) {
-                return Glance::Passed;
+                return told(Glance::Passed, place);
             }
-            Glance::Stop
+            told(Glance::Stop, place)
         }
     }
 }
@@ -131,41 +185,201 @@ fn probe_chain(
 {
     let mut c = from;
     let mut a = allowance;
+    let mut last = slots;
+    let mut there: u64 = 0;
     while 0 < a {
         let slot = search_feed::around(home, c, slots);
-        match look_over(words, packed, stars, sound, mark, slot) {
-            Glance::Stop => {
-                return Along {
-                    over: false,
-                    probe: c,
-                    left: a,
-                };
-            }
-            Glance::Empty => {
-                return Along {
-                    over: true,
-                    probe: c,
-                    left: a - 1,
-                };
-            }
+        let seen = look_over(words, packed, stars, sound, mark, slot, last, there);
+        let glance = seen.glance;
+        match glance {
+            Glance::Stop => return way(false, c, a),
+            Glance::Empty => return way(true, c, a - 1),
             Glance::Passed => {
                 a -= 1;
                 if slots <= (c + 1) as u64 {
-                    return Along {
-                        over: true,
-                        probe: c,
-                        left: a,
-                    };
+                    return way(true, c, a);
                 }
                 c += 1;
+                last = slot;
+                there = seen.place;
             }
         }
     }
-    Along {
-        over: false,
-        probe: c,
-        left: a,
+    way(false, c, a)
+}
+
+// One key from a probe on: along its chain, and on to the next key where it isn't the last.
+fn over_key(
+    k: u32,
+    probe: u32,
+    keys: u32,
+    hashes: &[u64; 1024],
+    slots: u64,
+    words: &[u64],
+    packed: &[u8],
+    stars: &[f32],
+    sound: u32,
+    home: u64,
+    allowance: u64,
+) -> Over
+    requires { ⌜ (k < keys) × (keys ≤ 1024) × (probe < slots) × (tableFits slots (now words) ≡ true) × SoundBelow (now stars) sound × (length (now hashes) ≡ 1024) × (home ≡ homeOf (getD (now hashes) k 0) slots) ⌝ }
+    ensures { λ r. ⌜ Onward (now (words .entry)) (now (packed .entry)) (now (stars .entry)) slots (now (hashes .entry)) keys k probe allowance r × (r .on ≡ true → r .key ≡ k + 1) ⌝ }
+{
+    let mark = key_hash::mark_of(hashes[k as usize]);
+    let s = probe_chain(
+        words,
+        packed,
+        stars,
+        sound,
+        slots,
+        home,
+        mark,
+        probe,
+        allowance,
+    );
+    if !s.over {
+        return stay(k, s.probe, s.left);
     }
+    if keys <= k + 1 {
+        return stay(k, s.probe, s.left + 1);
+    }
+    on_to(k + 1, s.left)
+}
+
+// The keys of n from `from` on whose home slot is filled, and those homes: so many. One past them is written over.
+fn filled_homes(
+    hashes: &[u64; 1024],
+    from: u32,
+    n: u32,
+    slots: u64,
+    words: &[u64],
+    keys: &mut [u32; 16],
+    homes: &mut [u64; 16],
+) -> u32
+    requires { ⌜ (from + n ≤ 1024) × (n ≤ 16) × (0 < slots) × (tableFits slots (now words) ≡ true) × (length (now hashes) ≡ 1024) × (length (now keys) ≡ 16) × (length (now homes) ≡ 16) ⌝ }
+    ensures { λ r. ⌜ Ahead (now (words .entry)) slots (now (hashes .entry)) from (from + n) r (now (keys .exit)) (now (homes .exit)) ⌝ }
+{
+    let mut m: u32 = 0;
+    let mut i: u32 = 0;
+    while i < n {
+        let k = from + i;
+        let hash = hashes[k as usize];
+        let home = key_hash::hash_to_index(hash, slots);
+        keys[m as usize] = k;
+        homes[m as usize] = home;
+        m += table_blocks::is_filled(words, home as usize) as u32;
+        i += 1;
+    }
+    m
+}
+
+// At most sixteen of n: so many keys are looked at ahead.
+fn sixteen_of(n: u32) -> u32
+    ensures { λ r. ⌜ r ≡ n - (n - 16) ⌝ }
+{
+    if n < 16 { n } else { 16 }
+}
+
+// Over the keys from k on, up to sixteen of them and not the last: an empty home slot is a read, the others go along their chains.
+fn over_keys(
+    k: u32,
+    keys: u32,
+    hashes: &[u64; 1024],
+    slots: u64,
+    words: &[u64],
+    packed: &[u8],
+    stars: &[f32],
+    sound: u32,
+    allowance: u64,
+) -> Over
+    requires { ⌜ (k + 1 < keys) × (keys ≤ 1024) × (0 < slots) × (tableFits slots (now words) ≡ true) × SoundBelow (now stars) sound × (length (now hashes) ≡ 1024) ⌝ }
+    ensures { λ r. ⌜ Onward (now (words .entry)) (now (packed .entry)) (now (stars .entry)) slots (now (hashes .entry)) keys k 0 allowance r ⌝ }
+{
+    let n = sixteen_of(keys - 1 - k);
+    let mut filled = [0u32; 16];
+    let mut homes = [0u64; 16];
+    let m = filled_homes(hashes, k, n, slots, words, &mut filled, &mut homes);
+    let mut at = k;
+    let mut a = allowance;
+    let mut j: u32 = 0;
+    while j < m {
+        let next = filled[j as usize];
+        let empty = (next - at) as u64;
+        if a <= empty {
+            return stay(at + a as u32, 0, 0);
+        }
+        let s = over_key(
+            next,
+            0,
+            keys,
+            hashes,
+            slots,
+            words,
+            packed,
+            stars,
+            sound,
+            homes[j as usize],
+            a - empty,
+        );
+        if !s.on {
+            return s;
+        }
+        at = next + 1;
+        a = s.left;
+        j += 1;
+    }
+    let empty = (k + n - at) as u64;
+    if a < empty {
+        return stay(at + a as u32, 0, 0);
+    }
+    on_to(k + n, a - empty)
+}
+
+// The steps of a combination from key k and probe c on: many keys at their first probes, or one.
+fn onward(
+    k: u32,
+    c: u32,
+    keys: u32,
+    hashes: &[u64; 1024],
+    slots: u64,
+    words: &[u64],
+    packed: &[u8],
+    stars: &[f32],
+    sound: u32,
+    allowance: u64,
+) -> Over
+    requires { ⌜ (k < keys) × (keys ≤ 1024) × (c < slots) × (tableFits slots (now words) ≡ true) × SoundBelow (now stars) sound × (length (now hashes) ≡ 1024) ⌝ }
+    ensures { λ r. ⌜ Onward (now (words .entry)) (now (packed .entry)) (now (stars .entry)) slots (now (hashes .entry)) keys k c allowance r ⌝ }
+{
+    if c == 0 {
+        if k + 1 < keys {
+            return over_keys(
+                k,
+                keys,
+                hashes,
+                slots,
+                words,
+                packed,
+                stars,
+                sound,
+                allowance,
+            );
+        }
+    }
+    let home = key_hash::hash_to_index(hashes[k as usize], slots);
+    over_key(
+        k,
+        c,
+        keys,
+        hashes,
+        slots,
+        words,
+        packed,
+        stars,
+        sound,
+        home,
+        allowance,
+    )
 }
 
 // Key after key of a combination, from a key and probe on. Its last read is never made: what comes after it is for the single read.
@@ -188,26 +402,15 @@ pub fn through(
     let mut c = probe;
     let mut a = allowance;
     loop {
-        let i = k as usize;
-        let hash = hashes[i];
-        let home = key_hash::hash_to_index(hash, slots);
-        let mark = key_hash::mark_of(hash);
-        let s = probe_chain(words, packed, stars, sound, slots, home, mark, c, a);
-        if !s.over {
+        let s = onward(k, c, keys, hashes, slots, words, packed, stars, sound, a);
+        if !s.on {
             return Stand {
-                key: k,
+                key: s.key,
                 probe: s.probe,
                 left: s.left,
             };
         }
-        if keys <= k + 1 {
-            return Stand {
-                key: k,
-                probe: s.probe,
-                left: s.left + 1,
-            };
-        }
-        k += 1;
+        k = s.key;
         c = 0;
         a = s.left;
     }

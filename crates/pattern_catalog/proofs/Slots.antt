@@ -10,7 +10,7 @@ use lib.ListN.{length}
 use Rattle.pattern_entry.specs.Ask.{ask}
 use Rattle.table_blocks.specs.Blocks.{blocksOf, tableFits, filled, place}
 use Rattle.pattern_entry.specs.Entry.{inSection}
-use Rattle.pattern_catalog.specs.Answers.{Answer, filledAt, empty, refused}
+use Rattle.pattern_catalog.specs.Answers.{Answer, filledAt, empty, refused, foundBy}
 use Rattle.pattern_catalog.specs.SlotRead.{slotIn, slotRead}
 use Rattle.table_blocks.specs.Places.{rankedAt}
 use Rattle.table_blocks.specs.declared.Ranked.{Ranked}
@@ -32,11 +32,6 @@ module _ (slots : ℕ) (words : List ℕ) (fits : tableFits slots words ≡ true
   fits-block s h = omega (arith, fits-long)
 
 -- ---- the read of a slot that exists
-
--- a place below the number of entries held is inside the section
-abbrev pub foundBy : Ranked → Answer
-foundBy (Ranked.Inside p) = filledAt p
-foundBy Ranked.Outside = refused 9
 
 module _ (words packed : List ℕ) (s : ℕ) where
   pub in-empty : filled words s ≡ false → empty ≡ slotIn words packed s

@@ -6,6 +6,7 @@ pub use crate::opening::open_check;
 pub use crate::slot_read::entry_of;
 pub use crate::slot_read::find;
 pub use crate::slot_read::find_in;
+pub use crate::slot_read::find_near;
 pub use crate::slot_read::slot_of;
 
 // Where a slot's entry stands: its place in the packed section.

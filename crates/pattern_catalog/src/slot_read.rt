@@ -2,14 +2,26 @@
 ghost use mathlib.Core.Path.{_≡_};
 ghost use Prim.Native.Nat.{_+_, _*_, _/_, _≤_};
 ghost use lib.ListN.{length};
-ghost use Rattle.pattern_catalog.specs.Answers.{foundSays, slotSays};
-ghost use Rattle.pattern_catalog.specs.SlotRead.{slotIn, slotRead, partOf};
+ghost use Rattle.pattern_catalog.specs.Answers.{foundBy, foundSays, slotSays};
+ghost use Rattle.pattern_catalog.specs.SlotRead.{PlaceKnown, slotIn, slotRead, partOf};
+ghost use Rattle.table_blocks.specs.Places.{rankedAt};
 use crate::Found;
 use crate::Slot;
 use table_blocks::Ranked;
-use table_blocks::bit;
 use table_blocks::block_rank;
+use table_blocks::is_filled;
+use table_blocks::near_rank;
 use table_blocks::table_fits;
+
+// What the place of a filled slot's entry says: where it is, or 9.
+fn placed(ranked: Ranked) -> Found
+    ensures { λ r. ⌜ foundSays r ≡ foundBy ranked ⌝ }
+{
+    match ranked {
+        Ranked::Inside(p) => Found::At(p),
+        Ranked::Outside => Found::Refused(9),
+    }
+}
 
 // The read of a slot whose block is there: 9 for the section where it is filled.
 pub fn find_in(words: &[u64], packed: &[u8], slot: u64) -> Found
@@ -17,16 +29,37 @@ pub fn find_in(words: &[u64], packed: &[u8], slot: u64) -> Found
     ensures { λ r. ⌜ foundSays r ≡ slotIn (now (words .entry)) (now (packed .entry)) slot ⌝ }
 {
     let s = slot as usize;
-    let at = s / 448 * 8 + 1 + s % 448 / 64;
-    let b = (s % 64) as u32;
-    if !bit(words[at], b) {
+    if !is_filled(words, s) {
         return Found::Empty;
     }
     let held = (packed.len() / 22) as u64;
-    match block_rank(words, s, held) {
-        Ranked::Inside(p) => Found::At(p),
-        Ranked::Outside => Found::Refused(9),
+    placed(block_rank(words, s, held))
+}
+
+// The slot's place, counted on from that of slot `from` where both are of one word.
+fn rank_from(words: &[u64], slot: usize, held: u64, from: usize, there: u64) -> Ranked
+    requires { ⌜ (slot / 448 * 8 + 8 ≤ length (now words)) × PlaceKnown (now words) 9223372036854775808 slot from there ⌝ }
+    ensures { λ r. ⌜ r ≡ rankedAt (now (words .entry)) slot held ⌝ }
+{
+    if from <= slot {
+        if from / 64 == slot / 64 {
+            return near_rank(words, slot, held, from, there);
+        }
     }
+    block_rank(words, slot, held)
+}
+
+// The same read where the place of slot `from`, if that is not past this one, is known.
+pub fn find_near(words: &[u64], packed: &[u8], slot: u64, from: u64, there: u64) -> Found
+    requires { ⌜ (slot / 448 * 8 + 8 ≤ length (now words)) × PlaceKnown (now words) (length (now packed) / 22) slot from there ⌝ }
+    ensures { λ r. ⌜ foundSays r ≡ slotIn (now (words .entry)) (now (packed .entry)) slot ⌝ }
+{
+    let s = slot as usize;
+    if !is_filled(words, s) {
+        return Found::Empty;
+    }
+    let held = (packed.len() / 22) as u64;
+    placed(rank_from(words, s, held, from as usize, there))
 }
 
 // The slot read: questions 6, 11, then 9 for the section only.

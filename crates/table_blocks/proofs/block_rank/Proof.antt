@@ -18,8 +18,8 @@ mul-rank c = search needs
 shared-slice-read-rank : tie.Need-shared-slice-read-rank
 shared-slice-read-rank c = search needs
 
-ones-in-requires : tie.Need-ones-in-requires
-ones-in-requires c κs = search needs
+ones-before-requires : tie.Need-ones-before-requires
+ones-before-requires c κs = search needs
 
 returns : tie.Need-returns
 unfolding place
@@ -37,7 +37,7 @@ add-t10 c = search needs
 
 returns-3 : tie.Need-returns-3
 unfolding place
-returns-3 c = ap (λ (x : ℕ). Ranked.Inside (getD (c .before .before .before .before .before .args .words .now) (c .before .before .before .before .before .args .slot / 448 * 8) 0 + x)) (c .before .before .ones-in .ensures) ∙ rank-in (c .before .before .before .before .before .args .words .now) (c .before .before .before .before .before .args .slot) (c .before .before .before .before .before .args .held) (omega arith)
+returns-3 c = ap (λ (x : ℕ). Ranked.Inside (getD (c .before .before .before .before .before .args .words .now) (c .before .before .before .before .before .args .slot / 448 * 8) 0 + x)) (c .before .before .ones-before .ensures) ∙ rank-in (c .before .before .before .before .before .args .words .now) (c .before .before .before .before .before .args .slot) (c .before .before .before .before .before .args .held) (omega arith)
 
 pub block-rank-spec : {M : Type 1} → statement M
 block-rank-spec =
@@ -46,7 +46,7 @@ block-rank-spec =
     mul-at
     mul-rank
     shared-slice-read-rank
-    ones-in-requires
+    ones-before-requires
     returns
     sub-if2
     returns-2

@@ -1,0 +1,45 @@
+use mathlib.Core.Path.{sym, subst}
+use Prim.Native.Nat.{ℕ}
+use Rattle.chains.specs.Onward.{Onward}
+use borrow.Author.Needs.{needs}
+use Rattle.chains.proofs.onward.Statement.{statement}
+use Rattle.chains.proofs.onward.Tie as tie
+
+add-if2 : tie.Need-add-if2
+add-if2 c = search needs
+
+over-keys-requires : tie.Need-over-keys-requires
+over-keys-requires c κs = search needs
+
+returns : tie.Need-returns
+returns c =
+    let a = c .before .before .before .before .before .before .args in
+    subst (λ (x : ℕ). Onward (a .words .now) (a .packed .now) (a .stars .now) (a .slots) (a .hashes .now) (a .keys) (a .k) x (a .allowance) (c .over-keys .result)) (sym (c .before .before .if1 .taken)) (c .over-keys .ensures)
+
+mul-hash-to-index : tie.Need-mul-hash-to-index
+mul-hash-to-index c = search needs
+
+element-copy-out-hash-to-index : tie.Need-element-copy-out-hash-to-index
+element-copy-out-hash-to-index c = search needs
+
+hash-to-index-requires : tie.Need-hash-to-index-requires
+hash-to-index-requires c κs = search needs
+
+over-key-requires : tie.Need-over-key-requires
+over-key-requires c κs = search needs
+
+returns-2 : tie.Need-returns-2
+returns-2 c = search needs
+
+pub onward-spec : {M : Type 1} → statement M
+onward-spec =
+    tie.close
+    (tie.spec
+    add-if2
+    over-keys-requires
+    returns
+    mul-hash-to-index
+    element-copy-out-hash-to-index
+    hash-to-index-requires
+    over-key-requires
+    returns-2)

@@ -1,0 +1,342 @@
+use mathlib.Core.Path.{_≡_, refl, sym, ap, subst, _∙_}
+use Prim.Native.Nat.{ℕ, _+_, _-_, _≤_, _<_}
+use native.Mathlib.Omega.{arith}
+use lib.ListN.{getD}
+use borrow.Author.Tests.{not-true, not-false}
+use Rattle.chains.specs.Chains.{stand}
+use Rattle.chains.specs.Onward.{start}
+use Rattle.chains.proofs.Aheads.{start-next, start-first, skip, short}
+use Rattle.chains.proofs.Onwards.{onward-stay, onward-on, onward-later}
+use Rattle.chains.proofs.over_keys.Statement.{statement}
+use Rattle.chains.proofs.over_keys.Tie as tie
+
+abbrev Inv-loop : tie.InvT-loop
+Inv-loop k keys hashes slots words packed stars sound allowance n filled homes m at₀ a₀ j₀ at a j =
+    (j ≤ m) × (at ≡ start k filled j) × (k ≤ at) × (a ≤ allowance) × (stand words packed stars slots hashes (keys - (at + 1)) at 0 a ≡ stand words packed stars slots hashes (keys - (k + 1)) k 0 allowance)
+
+abbrev μ-loop : tie.MeasureT-loop
+μ-loop k keys hashes slots words packed stars sound allowance n filled homes m at₀ a₀ j₀ at a j = m - j
+
+sub-sixteen-of : tie.Need-sub-sixteen-of Inv-loop μ-loop
+sub-sixteen-of c = omega (arith, c .before .before .before .pre .0)
+
+sub-sixteen-of-2 : tie.Need-sub-sixteen-of-2 Inv-loop μ-loop
+sub-sixteen-of-2 c = omega (arith, c .before .before .before .pre .0)
+
+sixteen-of-requires : tie.Need-sixteen-of-requires Inv-loop μ-loop
+sixteen-of-requires c κs = tt
+
+filled-homes-requires : tie.Need-filled-homes-requires Inv-loop μ-loop
+filled-homes-requires c κs = let b = c .before .before .before .before .before .before in let n = c .before .before .sixteen-of .ensures in (omega (arith, b .pre .0, b .pre .1, n), omega (arith, n), b .pre .2, b .pre .3, b .pre .5, refl, refl)
+
+loop-holds : tie.Need-loop-holds Inv-loop μ-loop
+loop-holds c = (omega arith, start-first _ _, omega arith, omega arith, refl)
+
+cast-next : tie.Need-cast-next Inv-loop μ-loop
+cast-next c =
+    let b = c .before .before .before .before .before .before .before .before .before in
+    let a = b .args in
+    let l = c .before .loop in
+    let A = c .before .before .filled-homes .ensures in
+    let n = c .before .before .before .before .before .sixteen-of .ensures in
+    record { fits = omega (arith, b .pre .0, A .few, n, l .inv .0) }
+
+mul-next : tie.Need-mul-next Inv-loop μ-loop
+mul-next c =
+    let b = c .before .before .before .before .before .before .before .before .before in
+    let a = b .args in
+    let l = c .before .loop in
+    let A = c .before .before .filled-homes .ensures in
+    let n = c .before .before .before .before .before .sixteen-of .ensures in
+    record { fits = omega (arith, b .pre .0, A .few, n, l .inv .0) }
+
+array-read-next : tie.Need-array-read-next Inv-loop μ-loop
+array-read-next c =
+    let b = c .before .before .before .before .before .before .before .before .before in
+    let a = b .args in
+    let l = c .before .loop in
+    let A = c .before .before .filled-homes .ensures in
+    let n = c .before .before .before .before .before .sixteen-of .ensures in
+    omega (arith, A .few, n, c .loop-test .taken)
+
+sub-empty : tie.Need-sub-empty Inv-loop μ-loop
+sub-empty c =
+    let b = c .before .before .before .before .before .before .before .before .before in
+    let a = b .args in
+    let l = c .before .loop in
+    let A = c .before .before .filled-homes .ensures in
+    let n = c .before .before .before .before .before .sixteen-of .ensures in
+    omega (arith, l .inv .1, A .from (l .j) (c .loop-test .taken))
+
+cast-empty : tie.Need-cast-empty Inv-loop μ-loop
+cast-empty c =
+    let b = c .before .before .before .before .before .before .before .before .before in
+    let a = b .args in
+    let l = c .before .loop in
+    let A = c .before .before .filled-homes .ensures in
+    let n = c .before .before .before .before .before .sixteen-of .ensures in
+    record { fits = omega (arith, b .pre .1, b .pre .0, n, A .below (l .j) (c .loop-test .taken)) }
+
+cast-stay : tie.Need-cast-stay Inv-loop μ-loop
+cast-stay c =
+    let b = c .before .before .before .before .before .before .before .before .before .before in
+    let a = b .args in
+    let l = c .before .before .loop in
+    let A = c .before .before .before .filled-homes .ensures in
+    let n = c .before .before .before .before .before .before .sixteen-of .ensures in
+    record { fits = omega (arith, b .pre .1, b .pre .0, n, A .below (l .j) (c .before .loop-test .taken), c .if1 .taken) }
+
+add-stay : tie.Need-add-stay Inv-loop μ-loop
+add-stay c =
+    let b = c .before .before .before .before .before .before .before .before .before .before in
+    let a = b .args in
+    let l = c .before .before .loop in
+    let A = c .before .before .before .filled-homes .ensures in
+    let n = c .before .before .before .before .before .before .sixteen-of .ensures in
+    record { fits = omega (arith, b .pre .1, b .pre .0, n, l .inv .1, A .from (l .j) (c .before .loop-test .taken), A .below (l .j) (c .before .loop-test .taken), c .if1 .taken) }
+
+stay-requires : tie.Need-stay-requires Inv-loop μ-loop
+stay-requires c κs = tt
+
+returns : tie.Need-returns Inv-loop μ-loop
+returns c =
+    let b = c .before .before .before .before .before .before .before .before .before .before .before in
+    let a = b .args in
+    let l = c .before .before .before .loop in
+    let A = c .before .before .before .before .filled-homes .ensures in
+    let n = c .before .before .before .before .before .before .before .sixteen-of .ensures in
+    let t = c .before .before .loop-test .taken in
+    let f = A .from (l .j) t in
+    let u = A .below (l .j) t in
+    let e = c .before .if1 .taken in
+    onward-stay (a .words .now) (a .packed .now) (a .stars .now) (a .slots) (a .hashes .now) (a .keys) (a .k) 0 (a .allowance) _ _ _ (short (a .words .now) (a .packed .now) (a .stars .now) (a .slots) (a .hashes .now) (a .keys) (b .pre .2) (l .at) (l .at + l .a) (l .a) refl (λ q x y. A .between (l .j) t q (omega (arith, l .inv .1, x)) (omega (arith, y, e, l .inv .1, f))) (omega (arith, b .pre .0, n, u, e, l .inv .1, f)) ∙ l .inv .4) _ (c .stay .ensures)
+
+cast-over-key : tie.Need-cast-over-key Inv-loop μ-loop
+cast-over-key c =
+    let b = c .before .before .before .before .before .before .before .before .before .before in
+    let a = b .args in
+    let l = c .before .before .loop in
+    let A = c .before .before .before .filled-homes .ensures in
+    let n = c .before .before .before .before .before .before .sixteen-of .ensures in
+    record { fits = omega (arith, b .pre .0, A .few, n, l .inv .0) }
+
+mul-over-key : tie.Need-mul-over-key Inv-loop μ-loop
+mul-over-key c =
+    let b = c .before .before .before .before .before .before .before .before .before .before in
+    let a = b .args in
+    let l = c .before .before .loop in
+    let A = c .before .before .before .filled-homes .ensures in
+    let n = c .before .before .before .before .before .before .sixteen-of .ensures in
+    record { fits = omega (arith, b .pre .0, A .few, n, l .inv .0) }
+
+array-read-over-key : tie.Need-array-read-over-key Inv-loop μ-loop
+array-read-over-key c =
+    let b = c .before .before .before .before .before .before .before .before .before .before in
+    let a = b .args in
+    let l = c .before .before .loop in
+    let A = c .before .before .before .filled-homes .ensures in
+    let n = c .before .before .before .before .before .before .sixteen-of .ensures in
+    omega (arith, A .few, n, c .before .loop-test .taken)
+
+sub-over-key : tie.Need-sub-over-key Inv-loop μ-loop
+sub-over-key c =
+    let b = c .before .before .before .before .before .before .before .before .before .before in
+    let a = b .args in
+    let l = c .before .before .loop in
+    let A = c .before .before .before .filled-homes .ensures in
+    let n = c .before .before .before .before .before .before .sixteen-of .ensures in
+    omega (arith, c .if1 .left)
+
+over-key-requires : tie.Need-over-key-requires Inv-loop μ-loop
+over-key-requires c κs =
+    let b = c .before .before .before .before .before .before .before .before .before .before in
+    let a = b .args in
+    let l = c .before .before .loop in
+    let A = c .before .before .before .filled-homes .ensures in
+    let n = c .before .before .before .before .before .before .sixteen-of .ensures in
+    let t = c .before .loop-test .taken in
+    (omega (arith, b .pre .0, n, A .below (l .j) t), b .pre .1, b .pre .2, b .pre .3, b .pre .4, b .pre .5, A .home (l .j) t)
+
+returns-2 : tie.Need-returns-2 Inv-loop μ-loop
+returns-2 c =
+    let b = c .before .before .before .before .before .before .before .before .before .before .before .before .before in
+    let a = b .args in
+    let l = c .before .before .before .before .before .loop in
+    let A = c .before .before .before .before .before .before .filled-homes .ensures in
+    let n = c .before .before .before .before .before .before .before .before .before .sixteen-of .ensures in
+    let t = c .before .before .before .before .loop-test .taken in
+    let f = A .from (l .j) t in
+    let u = A .below (l .j) t in
+    let e = c .before .before .before .if1 .left in
+    let q = getD (c .before .before .before .before .before .before .filled-homes .last .1 .1 .1 .1 .1 .0) (l .j) 0 in
+    let s = skip (a .words .now) (a .packed .now) (a .stars .now) (a .slots) (a .hashes .now) (a .keys) (b .pre .2) (q - l .at) (l .at) q (l .a - (q - l .at)) (l .a) (omega (arith, l .inv .1, f)) (omega (arith, e)) (λ x y z. A .between (l .j) t x (omega (arith, l .inv .1, y)) z) (omega (arith, b .pre .0, n, u)) ∙ l .inv .4 in
+    onward-later (a .words .now) (a .packed .now) (a .stars .now) (a .slots) (a .hashes .now) (a .keys) (a .k) 0 (a .allowance) q (l .a - (q - l .at)) (omega (arith, l .inv .1, l .inv .2, f)) (omega (arith, l .inv .3)) s _ (c .before .before .over-key .ensures .0)
+
+add-at : tie.Need-add-at Inv-loop μ-loop
+add-at c =
+    let b = c .before .before .before .before .before .before .before .before .before .before .before .before .before in
+    let a = b .args in
+    let l = c .before .before .before .before .before .loop in
+    let A = c .before .before .before .before .before .before .filled-homes .ensures in
+    let n = c .before .before .before .before .before .before .before .before .before .sixteen-of .ensures in
+    record { fits = omega (arith, b .pre .1, b .pre .0, n, A .below (l .j) (c .before .before .before .before .loop-test .taken)) }
+
+add-j : tie.Need-add-j Inv-loop μ-loop
+add-j c =
+    let b = c .before .before .before .before .before .before .before .before .before .before .before .before .before in
+    let a = b .args in
+    let l = c .before .before .before .before .before .loop in
+    let A = c .before .before .before .before .before .before .filled-homes .ensures in
+    let n = c .before .before .before .before .before .before .before .before .before .sixteen-of .ensures in
+    record { fits = omega (arith, b .pre .0, A .few, n, l .inv .0) }
+
+loop-less : tie.Need-loop-less Inv-loop μ-loop
+loop-less c = omega (arith, c .before .before .before .before .loop-test .taken)
+
+loop-again : tie.Need-loop-again Inv-loop μ-loop
+loop-again c =
+    let b = c .before .before .before .before .before .before .before .before .before .before .before .before .before in
+    let a = b .args in
+    let l = c .before .before .before .before .before .loop in
+    let A = c .before .before .before .before .before .before .filled-homes .ensures in
+    let n = c .before .before .before .before .before .before .before .before .before .sixteen-of .ensures in
+    let t = c .before .before .before .before .loop-test .taken in
+    let f = A .from (l .j) t in
+    let u = A .below (l .j) t in
+    let e = c .before .before .before .if1 .left in
+    let q = getD (c .before .before .before .before .before .before .filled-homes .last .1 .1 .1 .1 .1 .0) (l .j) 0 in
+    let s = skip (a .words .now) (a .packed .now) (a .stars .now) (a .slots) (a .hashes .now) (a .keys) (b .pre .2) (q - l .at) (l .at) q (l .a - (q - l .at)) (l .a) (omega (arith, l .inv .1, f)) (omega (arith, e)) (λ x y z. A .between (l .j) t x (omega (arith, l .inv .1, y)) z) (omega (arith, b .pre .0, n, u)) ∙ l .inv .4 in
+    let o = not-false _ (c .if2 .left) in
+    let w = c .before .before .over-key .ensures .0 .on o in
+    let k = c .before .before .over-key .ensures .1 o in
+    (omega (arith, t), sym (start-next (a .k) _ (l .j)), omega (arith, l .inv .1, l .inv .2, f), omega (arith, w .2, l .inv .3), ap (λ (x : ℕ). stand (a .words .now) (a .packed .now) (a .stars .now) (a .slots) (a .hashes .now) (a .keys - (x + 1)) x 0 (c .before .before .over-key .result .left)) (sym k) ∙ w .3 ∙ s)
+
+add-empty : tie.Need-add-empty Inv-loop μ-loop
+add-empty c =
+    let b = c .before .before .before .before .before .before .before .before .before in
+    let a = b .args in
+    let l = c .before .loop in
+    let A = c .before .before .filled-homes .ensures in
+    let n = c .before .before .before .before .before .sixteen-of .ensures in
+    record { fits = omega (arith, b .pre .0, b .pre .1, n) }
+
+sub-empty-2 : tie.Need-sub-empty-2 Inv-loop μ-loop
+sub-empty-2 c =
+    let b = c .before .before .before .before .before .before .before .before .before in
+    let a = b .args in
+    let l = c .before .loop in
+    let A = c .before .before .filled-homes .ensures in
+    let n = c .before .before .before .before .before .sixteen-of .ensures in
+    let e : l .j ≡ c .before .before .filled-homes .result = omega (arith, l .inv .0, c .loop-test .left) in
+    let s = l .inv .1 ∙ ap (start (a .k) _) e in
+    omega (arith, s, A .last)
+
+cast-empty-2 : tie.Need-cast-empty-2 Inv-loop μ-loop
+cast-empty-2 c =
+    let b = c .before .before .before .before .before .before .before .before .before in
+    let a = b .args in
+    let l = c .before .loop in
+    let A = c .before .before .filled-homes .ensures in
+    let n = c .before .before .before .before .before .sixteen-of .ensures in
+    record { fits = omega (arith, b .pre .0, b .pre .1, n) }
+
+cast-stay-2 : tie.Need-cast-stay-2 Inv-loop μ-loop
+cast-stay-2 c =
+    let b = c .before .before .before .before .before .before .before .before .before .before in
+    let a = b .args in
+    let l = c .before .before .loop in
+    let A = c .before .before .before .filled-homes .ensures in
+    let n = c .before .before .before .before .before .before .sixteen-of .ensures in
+    record { fits = omega (arith, b .pre .0, b .pre .1, n, c .if3 .taken) }
+
+add-stay-2 : tie.Need-add-stay-2 Inv-loop μ-loop
+add-stay-2 c =
+    let b = c .before .before .before .before .before .before .before .before .before .before in
+    let a = b .args in
+    let l = c .before .before .loop in
+    let A = c .before .before .before .filled-homes .ensures in
+    let n = c .before .before .before .before .before .before .sixteen-of .ensures in
+    let e : l .j ≡ c .before .before .before .filled-homes .result = omega (arith, l .inv .0, c .before .loop-test .left) in
+    let s = l .inv .1 ∙ ap (start (a .k) _) e in
+    record { fits = omega (arith, b .pre .0, b .pre .1, n, s, A .last, c .if3 .taken) }
+
+stay-requires-2 : tie.Need-stay-requires-2 Inv-loop μ-loop
+stay-requires-2 c κs = tt
+
+returns-3 : tie.Need-returns-3 Inv-loop μ-loop
+returns-3 c =
+    let b = c .before .before .before .before .before .before .before .before .before .before .before in
+    let a = b .args in
+    let l = c .before .before .before .loop in
+    let A = c .before .before .before .before .filled-homes .ensures in
+    let n = c .before .before .before .before .before .before .before .sixteen-of .ensures in
+    let e : l .j ≡ c .before .before .before .before .filled-homes .result = omega (arith, l .inv .0, c .before .before .loop-test .left) in
+    let s = l .inv .1 ∙ ap (start (a .k) _) e in
+    let g = c .before .if3 .taken in
+    onward-stay (a .words .now) (a .packed .now) (a .stars .now) (a .slots) (a .hashes .now) (a .keys) (a .k) 0 (a .allowance) _ _ _ (short (a .words .now) (a .packed .now) (a .stars .now) (a .slots) (a .hashes .now) (a .keys) (b .pre .2) (l .at) (l .at + l .a) (l .a) refl (λ q x y. A .after q (omega (arith, s, x)) (omega (arith, y, g, s, A .last))) (omega (arith, b .pre .0, n, g, s, A .last)) ∙ l .inv .4) _ (c .stay2 .ensures)
+
+add-on-to : tie.Need-add-on-to Inv-loop μ-loop
+add-on-to c =
+    let b = c .before .before .before .before .before .before .before .before .before .before in
+    let a = b .args in
+    let l = c .before .before .loop in
+    let A = c .before .before .before .filled-homes .ensures in
+    let n = c .before .before .before .before .before .before .sixteen-of .ensures in
+    record { fits = omega (arith, b .pre .0, b .pre .1, n) }
+
+on-to-requires : tie.Need-on-to-requires Inv-loop μ-loop
+on-to-requires c κs = tt
+
+returns-4 : tie.Need-returns-4 Inv-loop μ-loop
+returns-4 c =
+    let b = c .before .before .before .before .before .before .before .before .before .before .before in
+    let a = b .args in
+    let l = c .before .before .before .loop in
+    let A = c .before .before .before .before .filled-homes .ensures in
+    let n = c .before .before .before .before .before .before .before .sixteen-of .ensures in
+    let e : l .j ≡ c .before .before .before .before .filled-homes .result = omega (arith, l .inv .0, c .before .before .loop-test .left) in
+    let s = l .inv .1 ∙ ap (start (a .k) _) e in
+    let g = c .before .if3 .left in
+    let end = a .k + c .before .before .before .before .before .before .before .sixteen-of .result in
+    onward-on (a .words .now) (a .packed .now) (a .stars .now) (a .slots) (a .hashes .now) (a .keys) (a .k) 0 (a .allowance) end (l .a - (end - l .at)) (omega (arith, b .pre .0, n)) (omega (arith, b .pre .0, n)) (omega (arith, l .inv .3)) (skip (a .words .now) (a .packed .now) (a .stars .now) (a .slots) (a .hashes .now) (a .keys) (b .pre .2) (end - l .at) (l .at) end (l .a - (end - l .at)) (l .a) (omega (arith, s, A .last)) (omega (arith, g)) (λ q x y. A .after q (omega (arith, s, x)) y) (omega (arith, b .pre .0, n)) ∙ l .inv .4) _ (c .on-to .ensures)
+
+pub over-keys-spec : {M : Type 1} → statement M
+over-keys-spec =
+    tie.close
+    (tie.spec
+    Inv-loop
+    μ-loop
+    sub-sixteen-of
+    sub-sixteen-of-2
+    sixteen-of-requires
+    filled-homes-requires
+    loop-holds
+    cast-next
+    mul-next
+    array-read-next
+    sub-empty
+    cast-empty
+    cast-stay
+    add-stay
+    stay-requires
+    returns
+    cast-over-key
+    mul-over-key
+    array-read-over-key
+    sub-over-key
+    over-key-requires
+    returns-2
+    add-at
+    add-j
+    loop-less
+    loop-again
+    add-empty
+    sub-empty-2
+    cast-empty-2
+    cast-stay-2
+    add-stay-2
+    stay-requires-2
+    returns-3
+    add-on-to
+    on-to-requires
+    returns-4)
