@@ -1,6 +1,2 @@
 pub mod Glancing
 pub mod Ways
-pub mod Aheads
-pub mod Onwards
-pub mod Quiets
-pub mod Standing

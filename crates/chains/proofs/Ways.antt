@@ -9,11 +9,10 @@ use lib.Dec.{ltb}
 use lib.Ieee.{Float}
 use borrow.Author.Tests.{lt-ltb, le-ltb}
 use Rattle.chains.specs.Glances.{glanceOf}
-use Rattle.chains.specs.Chains.{along, alongBy, glanceAt, alongKey, stand}
+use Rattle.chains.specs.Chains.{along, alongBy, glanceAt}
 use Rattle.chains.specs.declared.Glance.{Glance}
 use Rattle.chains.specs.declared.Glance.the-variants.{Empty, Passed, Stop}
 use Rattle.chains.specs.declared.Along.{Along}
-use Rattle.chains.specs.declared.Stand.{Stand}
 
 module _ (words packed : List ℕ) (stars : List Float) (slots home mark : ℕ) where
   abbrev way : ℕ → ℕ → Along
@@ -57,26 +56,3 @@ module _ (words packed : List ℕ) (stars : List Float) (slots home mark : ℕ) 
 
   pub over-left : (a c : ℕ) (s : Along) → s ≡ way a c → s .over ≡ true → s .left < a
   over-left a c s e o = subst (λ (x : Along). x .over ≡ true → x .left < a) (sym e) (way-over a c) o
-
-module _ (words packed : List ℕ) (stars : List Float) (slots : ℕ) (hashes : List ℕ) (keys k c a : ℕ) (s : Along) (se : s ≡ alongKey words packed stars slots hashes k a c) where
-  abbrev from : ℕ → ℕ → ℕ → ℕ → Stand
-  from = stand words packed stars slots hashes
-
-  pub stand-stop : s .over ≡ false → record { key = k; probe = s .probe; left = s .left } ≡ from (keys - (k + 1)) k c a
-  unfolding stand
-  stand-stop o = by (keys - (k + 1))
-    where
-      by : (more : ℕ) → record { key = k; probe = s .probe; left = s .left } ≡ from more k c a
-      by zero = sym (rw (← se, o))
-      by (suc more) = sym (rw (← se, o))
-
-  pub stand-last : s .over ≡ true → keys ≤ k + 1 → record { key = k; probe = s .probe; left = s .left + 1 } ≡ from (keys - (k + 1)) k c a
-  unfolding stand
-  stand-last o h = let z : keys - (k + 1) ≡ 0 = omega arith in sym (rw (z, ← se, o, add-one))
-
-  pub stand-next : s .over ≡ true → k + 1 < keys → from (keys - (k + 1 + 1)) (k + 1) 0 (s .left) ≡ from (keys - (k + 1)) k c a
-  unfolding stand
-  stand-next o h =
-      let z : keys - (k + 1) ≡ suc (keys - (k + 1 + 1)) = omega arith in
-      let y : k + 1 ≡ suc k = omega arith in
-      sym (rw (z, ← se, o) (ap (λ n. from (keys - (k + 1 + 1)) n 0 (s .left)) (sym y)))

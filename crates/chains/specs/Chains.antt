@@ -1,17 +1,13 @@
--- The fast way over reads that give nothing, as far as it goes. Definitions only. That what it passes over is sound and gives no candidate, and
--- that it leads to a read of the same combination, is proved in proofs/Standing.
+-- Along a chain over reads that give nothing, as far as it goes. Definitions only.
 use Prim.Native.Nat.{ℕ, zero, suc, _+_, _*_, _%_}
 use mathlib.Core.Bool.{true, false, cond}
 use mathlib.Core.List.{List}
 use lib.Dec.{ltb}
-use lib.ListN.{getD}
 use lib.Ieee.{Float}
-use Rattle.key_hash.specs.Key.{homeOf, markOf}
 use Rattle.chains.specs.Glances.{glanceOf}
 use Rattle.chains.specs.declared.Glance.{Glance}
 use Rattle.chains.specs.declared.Glance.the-variants.{Empty, Passed, Stop}
 use Rattle.chains.specs.declared.Along.{Along}
-use Rattle.chains.specs.declared.Stand.{Stand}
 
 module _ (words packed : List ℕ) (stars : List Float) (slots : ℕ) where
   module _ (home mark : ℕ) where
@@ -29,17 +25,3 @@ module _ (words packed : List ℕ) (stars : List Float) (slots : ℕ) where
     unfoldable pub along : ℕ → ℕ → Along
     along zero c = record { over = false; probe = c; left = 0 }
     along (suc a) c = alongBy (glanceAt c) a c (along a (suc c))
-
-  module _ (hashes : List ℕ) where
-    -- along the chain of key k
-    abbrev pub alongKey : ℕ → ℕ → ℕ → Along
-    alongKey k a c = along (homeOf (getD hashes k 0) slots) (markOf (getD hashes k 0)) a c
-
-    -- key after key from key k and probe c, with `more` keys after it and an allowance
-    unfoldable pub stand : ℕ → ℕ → ℕ → ℕ → Stand
-    stand zero k c a =
-        let s = alongKey k a c in
-        cond (s .over) (record { key = k; probe = s .probe; left = suc (s .left) }) (record { key = k; probe = s .probe; left = s .left })
-    stand (suc more) k c a =
-        let s = alongKey k a c in
-        cond (s .over) (stand more (suc k) 0 (s .left)) (record { key = k; probe = s .probe; left = s .left })

@@ -1,4 +1,2 @@
 pub mod Glances
 pub mod Chains
-pub mod Onward
-pub mod Quiet

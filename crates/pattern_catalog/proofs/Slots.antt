@@ -10,7 +10,8 @@ use lib.ListN.{length}
 use Rattle.pattern_entry.specs.Ask.{ask}
 use Rattle.table_blocks.specs.Blocks.{blocksOf, tableFits, filled, place}
 use Rattle.pattern_entry.specs.Entry.{inSection}
-use Rattle.pattern_catalog.specs.Answers.{Answer, filledAt, empty, refused, foundBy}
+use Rattle.pattern_catalog.specs.Answers.{Answer, filledAt, empty, refused}
+use Rattle.pattern_catalog.specs.Placed.{foundBy}
 use Rattle.pattern_catalog.specs.SlotRead.{slotIn, slotRead}
 use Rattle.table_blocks.specs.Places.{rankedAt}
 use Rattle.table_blocks.specs.declared.Ranked.{Ranked}

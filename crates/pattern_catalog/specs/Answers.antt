@@ -3,7 +3,6 @@ use Prim.Native.Nat.{ℕ}
 use mathlib.Core.List.{List}
 use mathlib.Core.Option.{Option, none, some}
 use Rattle.table_blocks.specs.Blocks.{place}
-use Rattle.table_blocks.specs.declared.Ranked.{Ranked}
 use Rattle.pattern_catalog.specs.declared.Found.{Found}
 use Rattle.pattern_catalog.specs.declared.Slot.{Slot}
 use Rattle.pattern_catalog.specs.declared.Opened.{Opened}
@@ -19,11 +18,6 @@ abbrev pub foundSays : Found → Answer
 foundSays (Found.At p) = filledAt p
 foundSays Found.Empty = empty
 foundSays (Found.Refused n) = refused n
-
--- what a filled slot's place says: where its entry is, or 9
-abbrev pub foundBy : Ranked → Answer
-foundBy (Ranked.Inside p) = filledAt p
-foundBy Ranked.Outside = refused 9
 
 -- what `slot_of` says of a slot: filled is at the slot's place
 abbrev pub slotSays : List ℕ → ℕ → Slot → Answer

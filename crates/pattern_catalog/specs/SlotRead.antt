@@ -1,6 +1,5 @@
 -- The slot read. Definitions only. Document 01: "The slot read: 6, then 11 (is the slot below the slot count?), then 9 for the section only."
-use mathlib.Core.Path.{_≡_}
-use Prim.Native.Nat.{ℕ, _≤_, _<_}
+use Prim.Native.Nat.{ℕ}
 use mathlib.Core.List.{List, []}
 use lib.Dec.{ltb}
 use Rattle.pattern_entry.specs.Ask.{ask}
@@ -11,10 +10,6 @@ use Rattle.pattern_catalog.specs.Answers.{Answer, filledAt, empty, refus
 -- the read of a slot that exists: an empty slot is empty, and a filled one's entry is asked 9 for the section
 unfoldable pub slotIn : List ℕ → List ℕ → ℕ → Answer
 slotIn words packed s = ask (filled words s) empty (ask (inSection packed (place words s)) (refused 9) (filledAt (place words s)))
-
--- the place of slot `from`, below m, is known unless that slot lies past slot s
-abbrev pub PlaceKnown : List ℕ → ℕ → ℕ → ℕ → ℕ → Type 0
-PlaceKnown words m s from there = from ≤ s → (there ≡ place words from) × (there < m)
 
 -- the slot read, whatever is lent
 unfoldable pub slotRead : ℕ → List ℕ → List ℕ → ℕ → Answer

@@ -2,8 +2,9 @@
 ghost use mathlib.Core.Path.{_≡_};
 ghost use Prim.Native.Nat.{_+_, _*_, _/_, _≤_};
 ghost use lib.ListN.{length};
-ghost use Rattle.pattern_catalog.specs.Answers.{foundBy, foundSays, slotSays};
-ghost use Rattle.pattern_catalog.specs.SlotRead.{PlaceKnown, slotIn, slotRead, partOf};
+ghost use Rattle.pattern_catalog.specs.Answers.{foundSays, slotSays};
+ghost use Rattle.pattern_catalog.specs.SlotRead.{slotIn, slotRead, partOf};
+ghost use Rattle.pattern_catalog.specs.Placed.{foundBy, PlaceKnown};
 ghost use Rattle.table_blocks.specs.Places.{rankedAt};
 use crate::Found;
 use crate::Slot;

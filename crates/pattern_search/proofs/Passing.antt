@@ -20,11 +20,11 @@ use Rattle.search_feed.specs.Feed.{feed}
 use Rattle.search_feed.specs.Desk.{ForPass, ForFour}
 use Rattle.search_feed.specs.declared.Held.{Held}
 use Rattle.search_feed.proofs.Limits.{every-four-keyed}
-use Rattle.chains.specs.Chains.{stand}
-use Rattle.chains.specs.Quiet.{atKey, Leads}
-use Rattle.chains.specs.declared.Stand.{Stand}
-use Rattle.chains.proofs.Quiets.{quiet-rest}
-use Rattle.chains.proofs.Standing.{stand-leads}
+use Rattle.quiet_reads.specs.Stands.{stand}
+use Rattle.quiet_reads.specs.Quiet.{atKey, Leads}
+use Rattle.quiet_reads.specs.declared.Stand.{Stand}
+use Rattle.quiet_reads.proofs.Quiets.{quiet-rest}
+use Rattle.quiet_reads.proofs.Standing.{stand-leads}
 use Rattle.pattern_search.specs.Answers.{searched}
 use Rattle.pattern_search.specs.Turns.{passedOf, Ready, TurnedBy, Turned}
 use Rattle.pattern_search.specs.declared.Turn.{Turn}

@@ -21,8 +21,8 @@ use Rattle.search_feed.specs.Look.{noCandidate}
 use Rattle.search_feed.specs.declared.Held.{Held}
 use Rattle.search_feed.specs.declared.Seen.{Seen}
 use Rattle.search_feed.specs.declared.Seen.the-variants.{Empty, Unsound, Passed, Found}
-use Rattle.chains.specs.Quiet.{atKey}
-use Rattle.chains.specs.declared.Stand.{Stand}
+use Rattle.quiet_reads.specs.Quiet.{atKey}
+use Rattle.quiet_reads.specs.declared.Stand.{Stand}
 use Rattle.pattern_search.specs.Answers.{searched}
 use Rattle.pattern_search.specs.declared.Turn.{Turn}
 use Rattle.pattern_search.specs.declared.Searched.{Searched}

@@ -9,7 +9,7 @@ ghost use Rattle.pattern_search.specs.Turns.{stopping, goingOn, refusesO
 use crate::Answer;
 use crate::Searched;
 use crate::Turn;
-use chains::Stand;
+use quiet_reads::Stand;
 use search_feed::Held;
 use search_feed::SearchConfig;
 use search_feed::Seen;
@@ -113,7 +113,7 @@ fn passed(walk: Walk, p: Position, s: Stand, allowance: u64) -> Walk
         return walk;
     }
     let n = p.count(walk.patterns);
-    let to = chains::moved(p, s.key, s.probe);
+    let to = quiet_reads::moved(p, s.key, s.probe);
     Walk {
         next: Next::Goes(to),
         patterns: n,
@@ -213,7 +213,7 @@ fn read_on(
         dirs,
         hashes,
     );
-    let s = chains::through(
+    let s = quiet_reads::through(
         p.key,
         p.probe,
         desk.keys,
@@ -230,7 +230,7 @@ fn read_on(
         let reply = plain(Answer::AllowanceUsed, on.state());
         return stop(reply, on, desk);
     }
-    let to = chains::moved(p, s.key, s.probe);
+    let to = quiet_reads::moved(p, s.key, s.probe);
     read_turn(
         centroids,
         order,

@@ -1,5 +1,5 @@
 use mathlib.Core.Path.{sym, ap}
-use Rattle.pattern_catalog.specs.Answers.{foundBy}
+use Rattle.pattern_catalog.specs.Placed.{foundBy}
 use borrow.Author.Needs.{needs}
 use Rattle.pattern_catalog.proofs.slot_read.placed.Statement.{statement}
 use Rattle.pattern_catalog.proofs.slot_read.placed.Tie as tie

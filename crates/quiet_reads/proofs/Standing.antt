@@ -27,14 +27,15 @@ use Rattle.undivided_run.proofs.Steps.{key-more, probe-more, probe-last, probe-
 use Rattle.candidates.specs.declared.Candidate.{Candidate}
 use Rattle.search_feed.specs.Data.{Data}
 use Rattle.search_feed.specs.Feed.{feed, slotAt, entryAt, testedAt, ifHit, hashOfRead}
 use Rattle.chains.specs.Glances.{passesBy, glanceOf}
-use Rattle.chains.specs.Chains.{along, alongBy, glanceAt, alongKey, stand}
-use Rattle.chains.specs.Quiet.{atKey, Quiet, Leads}
+use Rattle.chains.specs.Chains.{along, alongBy, glanceAt}
+use Rattle.quiet_reads.specs.Stands.{alongKey, stand}
+use Rattle.quiet_reads.specs.Quiet.{atKey, Quiet, Leads}
 use Rattle.chains.specs.declared.Glance.{Glance}
 use Rattle.chains.specs.declared.Glance.the-variants.{Empty, Passed, Stop}
 use Rattle.chains.specs.declared.Along.{Along}
-use Rattle.chains.specs.declared.Stand.{Stand}
-use Rattle.chains.proofs.Quiets.{quiet-cat, not-counted, leads-stay, leads-then, quiet-one}
+use Rattle.quiet_reads.specs.declared.Stand.{Stand}
+use Rattle.quiet_reads.proofs.Quiets.{quiet-cat, not-counted, leads-stay, leads-then, quiet-one}
 
 -- ---- one read, by its slot's glance
 module _ (D : Data) (r : Position) where

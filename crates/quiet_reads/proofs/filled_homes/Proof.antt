@@ -3,10 +3,10 @@ use Prim.Native.Nat.{ℕ, _+_, _-_, _≤_, _<_}
 use native.Mathlib.Omega.{arith}
 use Rattle.pattern_catalog.proofs.Slots.{fits-block}
 use Rattle.search_feed.proofs.Looks.{home-below}
-use Rattle.chains.specs.Onward.{Ahead}
-use Rattle.chains.proofs.Aheads.{byte-most, ahead-none, ahead-looked}
-use Rattle.chains.proofs.filled_homes.Statement.{statement}
-use Rattle.chains.proofs.filled_homes.Tie as tie
+use Rattle.quiet_reads.specs.Onward.{Ahead}
+use Rattle.quiet_reads.proofs.Aheads.{byte-most, ahead-none, ahead-looked}
+use Rattle.quiet_reads.proofs.filled_homes.Statement.{statement}
+use Rattle.quiet_reads.proofs.filled_homes.Tie as tie
 
 abbrev Inv-loop : tie.InvT-loop
 Inv-loop hashes from n slots words keys₀ homes₀ m₀ i₀ keys homes m i = Ahead words slots hashes from (from + i) m keys homes × (i ≤ n)

@@ -1,9 +1,9 @@
 use mathlib.Core.Path.{sym, subst}
 use Prim.Native.Nat.{ℕ}
-use Rattle.chains.specs.Onward.{Onward}
+use Rattle.quiet_reads.specs.Onward.{Onward}
 use borrow.Author.Needs.{needs}
-use Rattle.chains.proofs.onward.Statement.{statement}
-use Rattle.chains.proofs.onward.Tie as tie
+use Rattle.quiet_reads.proofs.onward.Statement.{statement}
+use Rattle.quiet_reads.proofs.onward.Tie as tie
 
 add-if2 : tie.Need-add-if2
 add-if2 c = search needs

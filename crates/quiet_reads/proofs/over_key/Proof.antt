@@ -3,12 +3,13 @@ use Prim.Native.Nat.{ℕ, _+_, _<_}
 use native.Mathlib.Omega.{arith}
 use borrow.Author.Tests.{not-true, not-false}
 use Rattle.search_feed.proofs.Looks.{home-below}
-use Rattle.chains.specs.declared.Over.{Over}
-use Rattle.chains.proofs.Ways.{over-left, stand-stop, stand-last, stand-next}
-use Rattle.chains.proofs.Onwards.{onward-stay, onward-on, stayed}
+use Rattle.quiet_reads.specs.declared.Over.{Over}
+use Rattle.chains.proofs.Ways.{over-left}
+use Rattle.quiet_reads.proofs.Stands.{stand-stop, stand-last, stand-next}
+use Rattle.quiet_reads.proofs.Onwards.{onward-stay, onward-on, stayed}
 use borrow.Author.Needs.{needs}
-use Rattle.chains.proofs.over_key.Statement.{statement}
-use Rattle.chains.proofs.over_key.Tie as tie
+use Rattle.quiet_reads.proofs.over_key.Statement.{statement}
+use Rattle.quiet_reads.proofs.over_key.Tie as tie
 
 mul-mark-of : tie.Need-mul-mark-of
 mul-mark-of c = search needs

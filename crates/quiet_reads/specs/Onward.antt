@@ -7,8 +7,8 @@ use lib.ListN.{length, getD}
 use lib.Ieee.{Float}
 use Rattle.key_hash.specs.Key.{homeOf}
 use Rattle.table_blocks.specs.Blocks.{filled}
-use Rattle.chains.specs.Chains.{stand}
-use Rattle.chains.specs.declared.Over.{Over}
+use Rattle.quiet_reads.specs.Stands.{stand}
+use Rattle.quiet_reads.specs.declared.Over.{Over}
 
 -- the home slot of key q
 abbrev pub homeAt : ℕ → List ℕ → ℕ → ℕ

@@ -5,10 +5,10 @@ use native.Mathlib.Omega.{arith}
 use mathlib.Core.Bool.{true, false}
 use mathlib.Core.List.{List}
 use lib.Ieee.{Float}
-use Rattle.chains.specs.Chains.{stand}
-use Rattle.chains.specs.Onward.{Onward}
-use Rattle.chains.specs.declared.Over.{Over}
-use Rattle.chains.specs.declared.Stand.{Stand}
+use Rattle.quiet_reads.specs.Stands.{stand}
+use Rattle.quiet_reads.specs.Onward.{Onward}
+use Rattle.quiet_reads.specs.declared.Over.{Over}
+use Rattle.quiet_reads.specs.declared.Stand.{Stand}
 
 module _ (words packed : List ℕ) (stars : List Float) (slots : ℕ) (hashes : List ℕ) (keys k c a : ℕ) where
   abbrev from : ℕ → ℕ → ℕ → ℕ → Stand

@@ -15,13 +15,15 @@ use borrow.Author.Tests.{ltb-true, ltb-false}
 use Rattle.key_hash.specs.Key.{homeOf, markOf}
 use Rattle.table_blocks.specs.Blocks.{filled}
 use Rattle.search_feed.proofs.Looks.{home-below}
 use Rattle.chains.specs.Glances.{glanceOf}
-use Rattle.chains.specs.Chains.{along, alongKey, stand}
-use Rattle.chains.specs.Onward.{homeAt, EmptyHomes, start, Ahead}
+use Rattle.chains.specs.Chains.{along}
+use Rattle.quiet_reads.specs.Stands.{alongKey, stand}
+use Rattle.quiet_reads.specs.Onward.{homeAt, EmptyHomes, start, Ahead}
 use Rattle.chains.specs.declared.Glance.the-variants.{Empty}
 use Rattle.chains.specs.declared.Along.{Along}
-use Rattle.chains.specs.declared.Stand.{Stand}
-use Rattle.chains.proofs.Ways.{way-empty, way-used, stand-stop, stand-next}
+use Rattle.quiet_reads.specs.declared.Stand.{Stand}
+use Rattle.chains.proofs.Ways.{way-empty, way-used}
+use Rattle.quiet_reads.proofs.Stands.{stand-stop, stand-next}
 
 -- ---- the keys looked for
 -- a write at m leaves the searches up to m where they begin

@@ -2,9 +2,9 @@ use mathlib.Core.Path.{_≡_, refl, _∙_}
 use Prim.Native.Nat.{_+_, _-_, _<_}
 use native.Mathlib.Omega.{arith}
 use borrow.Author.Tests.{not-true, not-false}
-use Rattle.chains.specs.Chains.{stand}
-use Rattle.chains.proofs.through.Statement.{statement}
-use Rattle.chains.proofs.through.Tie as tie
+use Rattle.quiet_reads.specs.Stands.{stand}
+use Rattle.quiet_reads.proofs.through.Statement.{statement}
+use Rattle.quiet_reads.proofs.through.Tie as tie
 
 abbrev Inv-loop : tie.InvT-loop
 Inv-loop key probe keys hashes slots words packed stars sound allowance k₀ c₀ a₀ k c a =

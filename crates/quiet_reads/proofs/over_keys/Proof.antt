@@ -3,12 +3,12 @@ use Prim.Native.Nat.{ℕ, _+_, _-_, _≤_, _<_}
 use native.Mathlib.Omega.{arith}
 use lib.ListN.{getD}
 use borrow.Author.Tests.{not-true, not-false}
-use Rattle.chains.specs.Chains.{stand}
-use Rattle.chains.specs.Onward.{start}
-use Rattle.chains.proofs.Aheads.{start-next, start-first, skip, short}
-use Rattle.chains.proofs.Onwards.{onward-stay, onward-on, onward-later}
-use Rattle.chains.proofs.over_keys.Statement.{statement}
-use Rattle.chains.proofs.over_keys.Tie as tie
+use Rattle.quiet_reads.specs.Stands.{stand}
+use Rattle.quiet_reads.specs.Onward.{start}
+use Rattle.quiet_reads.proofs.Aheads.{start-next, start-first, skip, short}
+use Rattle.quiet_reads.proofs.Onwards.{onward-stay, onward-on, onward-later}
+use Rattle.quiet_reads.proofs.over_keys.Statement.{statement}
+use Rattle.quiet_reads.proofs.over_keys.Tie as tie
 
 abbrev Inv-loop : tie.InvT-loop
 Inv-loop k keys hashes slots words packed stars sound allowance n filled homes m at₀ a₀ j₀ at a j =

@@ -17,7 +17,7 @@ use Rattle.undivided_run.specs.Step.{bump, soundAt, nextRead}
 use Rattle.undivided_run.specs.Exists.{Keyed}
 use Rattle.undivided_run.specs.Good.{Good, goesOn}
 use Rattle.undivided_run.proofs.Turns.{good-after, turn-passed}
-use Rattle.chains.specs.Quiet.{Quiet, Leads}
+use Rattle.quiet_reads.specs.Quiet.{Quiet, Leads}
 
 pub quiet-cat : {E C : Type 0} (F : Feed E C) (cap : Cap) (j k t : ℕ) (w v u : Next) (n m l : ℕ) → j + k ≡ t → Quiet F cap j w n v m → Quiet F cap k v m u l → Quiet F cap t w n u l
 quiet-cat F cap zero k t w v u n m l h d e = let z : k ≡ t = omega arith in rw (d .0, d .1) (subst (λ x. Quiet F cap x v m u l) z e)

@@ -1,0 +1,16 @@
+-- What the steps of the slot read say of a place. Definitions only.
+use mathlib.Core.Path.{_≡_}
+use Prim.Native.Nat.{ℕ, _≤_, _<_}
+use mathlib.Core.List.{List}
+use Rattle.table_blocks.specs.Blocks.{place}
+use Rattle.table_blocks.specs.declared.Ranked.{Ranked}
+use Rattle.pattern_catalog.specs.Answers.{Answer, filledAt, refused}
+
+-- what a filled slot's place says: where its entry is, or 9
+abbrev pub foundBy : Ranked → Answer
+foundBy (Ranked.Inside p) = filledAt p
+foundBy Ranked.Outside = refused 9
+
+-- the place of slot `from`, below m, is known unless that slot lies past slot s
+abbrev pub PlaceKnown : List ℕ → ℕ → ℕ → ℕ → ℕ → Type 0
+PlaceKnown words m s from there = from ≤ s → (there ≡ place words from) × (there < m)

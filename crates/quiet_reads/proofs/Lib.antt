@@ -1,0 +1,5 @@
+pub mod Stands
+pub mod Aheads
+pub mod Onwards
+pub mod Quiets
+pub mod Standing
