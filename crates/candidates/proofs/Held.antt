@@ -1,6 +1,7 @@
 -- A sound entry's stars lie inside the star slice. Assumes nothing.
 use Rattle.pattern_entry.specs.Entry.{wordAt}
-use Rattle.pattern_entry.proofs.Sound.{sound-entry, sound-star}
+use Rattle.star_slice.proofs.Sound.{sound-star}
+use Rattle.sound_entries.proofs.Sound.{sound-entry}
 use Rattle.candidates.specs.Claims.{SoundHeld}
 
 pub sound-held : SoundHeld

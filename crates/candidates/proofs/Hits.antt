@@ -12,7 +12,9 @@ use Rattle.pattern_entry.specs.declared.PatternEntry.{PatternEntry}
 use Rattle.tolerance.specs.declared.Tolerance.{Tolerance}
 use Rattle.candidates.specs.declared.Image.{Image}
 use Rattle.candidates.specs.declared.Tested.the-variants.{Over, Hit}
-use Rattle.candidates.specs.Tests.{starsOf, nearField, inside, measuredOf, fieldSound, testOf}
+use Rattle.star_directions.specs.Directions.{starsOf}
+use Rattle.comparisons.specs.Comparisons.{nearField, inside}
+use Rattle.candidates.specs.Tests.{measuredOf, fieldSound, testOf}
 use Rattle.candidates.specs.Claims.{Agrees, HitExactly}
 
 -- four tests in a row, all of which must hold

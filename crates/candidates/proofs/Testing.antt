@@ -11,7 +11,9 @@ use Rattle.pattern_entry.specs.declared.PatternEntry.{PatternEntry}
 use Rattle.tolerance.specs.declared.Tolerance.{Tolerance}
 use Rattle.candidates.specs.declared.Image.{Image}
 use Rattle.candidates.specs.declared.Tested.the-variants.{Over, Hit}
-use Rattle.candidates.specs.Tests.{starsOf, nearField, inside, measuredOf, testOf}
+use Rattle.star_directions.specs.Directions.{starsOf}
+use Rattle.comparisons.specs.Comparisons.{nearField, inside}
+use Rattle.candidates.specs.Tests.{measuredOf, testOf}
 use Rattle.candidates.proofs.Fields.{field-fits-sound}
 
 module _ (entry : PatternEntry) (mark : ℕ) (stars : List Float) (image : Image) (e field : Float) (error : Tolerance) where

@@ -7,10 +7,13 @@ use mathlib.Core.List.{List}
 use lib.Ieee.{Float}
 use Rattle.pattern.specs.Edges.{edgesOf, ratiosOf}
 use Rattle.pattern_entry.specs.declared.PatternEntry.{PatternEntry}
-use Rattle.pattern_entry.specs.Entry.{entryRead, entrySound}
+use Rattle.pattern_entry.specs.Entry.{entryRead}
+use Rattle.sound_entries.specs.Sound.{entrySound}
 use Rattle.tolerance.specs.declared.Tolerance.{Tolerance}
-use Rattle.candidates.specs.Tests.{starsOf, nearField, inside, measuredOf, fieldSound, testOf}
-use Rattle.candidates.specs.Sound.{StarsHeld}
+use Rattle.star_directions.specs.Directions.{starsOf}
+use Rattle.comparisons.specs.Comparisons.{nearField, inside}
+use Rattle.candidates.specs.Tests.{measuredOf, fieldSound, testOf}
+use Rattle.star_directions.specs.Directions.{StarsHeld}
 use Rattle.candidates.specs.declared.Image.{Image}
 use Rattle.candidates.specs.declared.Tested.the-variants.{Hit}
 

@@ -2,10 +2,10 @@
 ghost use mathlib.Core.Path.{_≡_};
 ghost use lib.ListN.{length};
 ghost use Rattle.pattern_catalog.specs.SlotRead.{slotRead, partOf};
-ghost use Rattle.pattern_catalog.specs.Opening.{opening};
+ghost use Rattle.opening.specs.Opening.{opening};
 ghost use Rattle.catalog_c.specs.Numbers.{numberOf, answerNumber, rawEntry};
+use opening::Opened;
 use pattern_catalog::Found;
-use pattern_catalog::Opened;
 
 // An entry as plain numbers.
 #[repr(C)]
@@ -23,7 +23,7 @@ pub struct RawEntry {
 pub extern "C" fn catalog_open(slots: u64, words: &[u64], packed: &[u8], stars: &[f32]) -> u32
     ensures { λ r. ⌜ r ≡ numberOf (opening slots (now (words .entry)) (now (packed .entry)) (now (stars .entry))) ⌝ }
 {
-    match pattern_catalog::open_check(slots, words, packed, stars) {
+    match opening::open_check(slots, words, packed, stars) {
         Opened::Passed => 0,
         Opened::Refused(n) => n,
     }

@@ -8,12 +8,14 @@ use lib.ListN.{length}
 use lib.Ieee.{Float}
 use native.Mathlib.Omega.{arith}
 use borrow.Author.Tests.{ltb-true, lt-ltb, le-ltb, eq-eqb, ne-eqb}
-use Rattle.pattern_entry.specs.Ask.{ask}
-use Rattle.pattern_entry.specs.Stars.{starCount, starSound}
-use Rattle.pattern_entry.specs.Entry.{wordAt, markOf, bytesAt, inSection, entrySound}
-use Rattle.pattern_entry.specs.Shortcuts.{everyStar, indicesBelow}
-use Rattle.pattern_entry.proofs.StarSlice.{inside-sound}
-use Rattle.pattern_entry.proofs.Every.{both-l, both-r}
+use Rattle.star_slice.specs.Ask.{ask}
+use Rattle.star_slice.specs.Stars.{starCount, starSound}
+use Rattle.pattern_entry.specs.Entry.{wordAt, markOf, bytesAt, inSection}
+use Rattle.sound_entries.specs.Sound.{entrySound}
+use Rattle.star_slice.specs.Shortcuts.{everyStar}
+use Rattle.sound_entries.specs.Shortcuts.{indicesBelow}
+use Rattle.star_slice.proofs.StarSlice.{inside-sound}
+use Rattle.star_slice.proofs.Every.{both-l, both-r}
 use Rattle.pattern_entry.proofs.Bytes.{whole-at}
 use Rattle.table_blocks.specs.Blocks.{filled, place}
 use Rattle.pattern_catalog.specs.Answers.{foundSays}

@@ -6,9 +6,10 @@ use mathlib.Core.List.{List}
 use lib.Dec.{eqb, ltb}
 use lib.Ieee.{Float}
 use Rattle.table_blocks.specs.Blocks.{filled, place}
-use Rattle.pattern_entry.specs.Stars.{starCount, starSound}
-use Rattle.pattern_entry.specs.Shortcuts.{everyStar}
-use Rattle.pattern_entry.specs.Entry.{markOf, bytesAt, entrySound}
+use Rattle.star_slice.specs.Stars.{starCount, starSound}
+use Rattle.star_slice.specs.Shortcuts.{everyStar}
+use Rattle.pattern_entry.specs.Entry.{markOf, bytesAt}
+use Rattle.sound_entries.specs.Sound.{entrySound}
 use Rattle.chains.specs.declared.Known.{Known}
 use Rattle.chains.specs.declared.Glance.{Glance}
 use Rattle.chains.specs.declared.Glance.the-variants.{Empty, Passed, Stop}

@@ -49,7 +49,7 @@ pub fn ask_stars(stars: &[f32], known: Known, made: u64) -> Known
     if made < (n / 4) as u64 {
         return known;
     }
-    if pattern_entry::every_star_sound(stars) {
+    if star_slice::every_star_sound(stars) {
         return Known {
             asked: true,
             sound: n as u32,
@@ -69,10 +69,10 @@ fn passes_by(packed: &[u8], stars: &[f32], sound: u32, mark: u16, place: u64) ->
     if pattern_entry::mark_at(packed, place) == mark {
         return false;
     }
-    if pattern_entry::indices_below_at(packed, place, sound) {
+    if sound_entries::indices_below_at(packed, place, sound) {
         return true;
     }
-    pattern_entry::entry_sound_at(stars, packed, place)
+    sound_entries::entry_sound_at(stars, packed, place)
 }
 
 fn told(glance: Glance, place: u64) -> Glimpse

@@ -1,4 +1,2 @@
-pub mod Rising
-pub mod Places
 pub mod Asking
 pub mod Saying

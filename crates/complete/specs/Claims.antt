@@ -5,13 +5,15 @@ use mathlib.Core.Bool.{true}
 use mathlib.Core.Logic.{_↔_}
 use mathlib.Core.List.{List}
 use lib.Ieee.{Float}
-use Rattle.preprocess.specs.Questions.{centroidsFit, coordinatesFit, orderFits}
+use Rattle.preprocess.specs.Questions.{centroidsFit, coordinatesFit}
+use Rattle.brightness_list.specs.Order.{orderFits}
 use Rattle.passes.specs.Passes.{passesFit}
-use Rattle.pattern_entry.specs.Stars.{starsFit}
+use Rattle.star_slice.specs.Stars.{starsFit}
 use Rattle.candidates.specs.declared.Candidate.{Candidate}
 use Rattle.complete.specs.declared.Completion.{Completion}
 use Rattle.complete.specs.Answers.{completedSays}
-use Rattle.complete.specs.Completing.{candidateFits, fourSound, completing, completedOf}
+use Rattle.candidate_questions.specs.Questions.{candidateFits, fourSound}
+use Rattle.complete.specs.Completing.{completing, completedOf}
 
 -- What `complete` returns says document 01's answer: `completed-says`.
 abbrev pub CompletedSays : Type 0

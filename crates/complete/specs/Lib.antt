@@ -1,4 +1,3 @@
 pub mod Answers
 pub mod Completing
-pub mod Held
 pub mod Claims

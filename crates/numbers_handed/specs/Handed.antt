@@ -12,7 +12,7 @@ use Rattle.undivided_run.specs.declared.Phase.the-variants.{Fresh, At, Ended}
 use Rattle.undivided_run.specs.declared.Status.{Status}
 use Rattle.undivided_run.specs.declared.Status.the-variants.{TooFew, NoMatch, Timeout}
 use Rattle.candidates.specs.declared.Candidate.{Candidate}
-use Rattle.candidates.specs.Tests.{noStar}
+use Rattle.star_directions.specs.Directions.{noStar}
 use Rattle.pattern_search.specs.declared.Searched.{Searched}
 use Rattle.pattern_search.specs.declared.Answer.{Answer as Said}
 use Rattle.pattern_catalog.specs.Answers.{Answer, filledAt, empty, refused}
@@ -21,7 +21,7 @@ use Rattle.complete.specs.declared.Row.{Row}
 use Rattle.complete.specs.declared.Completed.{Completed}
 use Rattle.complete.specs.declared.Completion.{Completion}
 use Rattle.complete.specs.Answers.{noRow}
-use Rattle.complete.specs.Completing.{placeAt}
+use Rattle.candidate_questions.specs.Questions.{placeAt}
 use Rattle.star_numbers.specs.declared.StarState.{StarState}
 use Rattle.star_numbers.specs.declared.StarCandidate.{StarCandidate}
 use Rattle.star_numbers.specs.declared.StarAnswer.{StarAnswer}

@@ -14,8 +14,8 @@ use Rattle.undivided_run.specs.declared.State.{State}
 use Rattle.undivided_run.specs.declared.Phase.the-variants.{Fresh, At, Ended}
 use Rattle.undivided_run.specs.declared.Status.the-variants.{TooFew, NoMatch, Timeout}
 use Rattle.search_feed.specs.declared.SearchConfig.{SearchConfig}
-use Rattle.preprocess.specs.declared.Place.{Place}
-use Rattle.pattern_entry.specs.declared.StarIndex.{StarIndex}
+use Rattle.brightness_list.specs.declared.Place.{Place}
+use Rattle.star_slice.specs.declared.StarIndex.{StarIndex}
 use Rattle.candidates.specs.declared.Candidate.{Candidate}
 use Rattle.star_numbers.specs.declared.StarState.{StarState}
 use Rattle.star_numbers.specs.declared.StarSettings.{StarSettings}

@@ -2,14 +2,14 @@
 // so that the first no still wins.
 ghost use mathlib.Core.Path.{_≡_};
 ghost use Rattle.numbers_received.specs.Received.{optionOf, capOf, binsOf, configOf, positionOf, endedOf, stateOf, unknown, placesOf, starsOf, candidateOf};
+use brightness_list::Place;
 use candidates::Candidate;
 use combinations::Four;
-use pattern_entry::StarIndex;
-use preprocess::Place;
 use search_feed::SearchConfig;
 use star_numbers::StarCandidate;
 use star_numbers::StarSettings;
 use star_numbers::StarState;
+use star_slice::StarIndex;
 use tolerance::Tolerance;
 use undivided_run::Cap;
 use undivided_run::Phase;

@@ -6,14 +6,16 @@ use mathlib.Core.List.{List, [], _∷_}
 use mathlib.Core.Option.{Option, none, some}
 use lib.Ieee.{le, ofBits, mul, div, ofInt, neg}
 use Rattle.float.specs.Magnitude.{magnitudeOf}
-use Rattle.preprocess.specs.Questions.{centroidsFit, coordinateFits, coordinatesFit, allBelow, among, noneTwice, orderFits}
+use Rattle.preprocess.specs.Questions.{centroidsFit, coordinateFits, coordinatesFit}
+use Rattle.brightness_list.specs.Order.{allBelow, among, noneTwice, orderFits}
 use Rattle.tolerance.specs.Tolerances.{toleranceOf, narrowFits, settingsFit}
 use Rattle.passes.specs.Passes.{fieldFits, scaleFits, cosineFits, passFits, passAt, firstFit, passesFit}
 use Rattle.table_blocks.specs.Blocks.{tableFits, bitAt, onesIn, place}
-use Rattle.pattern_entry.specs.Ask.{every}
-use Rattle.pattern_entry.specs.Stars.{starsFit, unit, starSound}
-use Rattle.pattern_entry.specs.Entry.{bytesAt, inSection, entrySound}
-use Rattle.pattern_catalog.specs.Opening.{indexRight, opening}
+use Rattle.star_slice.specs.Ask.{every}
+use Rattle.star_slice.specs.Stars.{starsFit, unit, starSound}
+use Rattle.pattern_entry.specs.Entry.{bytesAt, inSection}
+use Rattle.sound_entries.specs.Sound.{entrySound}
+use Rattle.opening.specs.Opening.{indexRight, opening}
 use Rattle.undivided_run.specs.Undivided.{cases}
 use Rattle.undivided_run.specs.declared.State.{State}
 use Rattle.undivided_run.specs.Step.{start, refusalOf}

@@ -7,7 +7,7 @@ use native.Mathlib.Omega.{arith}
 use borrow.Author.Tests.{lt-ltb, le-ltb, le-leb, lt-leb, ltb-true, ltb-false, leb-true, eqb-true}
 use lib.Dec.{leb, ltb, eqb}
 use lib.ListN.{length}
-use Rattle.pattern_entry.specs.Ask.{ask}
+use Rattle.star_slice.specs.Ask.{ask}
 use Rattle.table_blocks.specs.Blocks.{blocksOf, tableFits, filled, place}
 use Rattle.pattern_entry.specs.Entry.{inSection}
 use Rattle.pattern_catalog.specs.Answers.{Answer, filledAt, empty, refused}
@@ -15,7 +15,7 @@ use Rattle.pattern_catalog.specs.Placed.{foundBy}
 use Rattle.pattern_catalog.specs.SlotRead.{slotIn, slotRead}
 use Rattle.table_blocks.specs.Places.{rankedAt}
 use Rattle.table_blocks.specs.declared.Ranked.{Ranked}
-use Rattle.pattern_entry.proofs.Every.{both-l, both-r}
+use Rattle.star_slice.proofs.Every.{both-l, both-r}
 
 -- ---- question 6
 

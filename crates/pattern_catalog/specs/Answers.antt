@@ -1,11 +1,9 @@
 -- The answers in document 01's words, and what each case of an enum says. Definitions only.
 use Prim.Native.Nat.{ℕ}
 use mathlib.Core.List.{List}
-use mathlib.Core.Option.{Option, none, some}
 use Rattle.table_blocks.specs.Blocks.{place}
 use Rattle.pattern_catalog.specs.declared.Found.{Found}
 use Rattle.pattern_catalog.specs.declared.Slot.{Slot}
-use Rattle.pattern_catalog.specs.declared.Opened.{Opened}
 
 -- A slot read finds the slot filled, with its entry at this place of the packed section; or empty; or is refused with this question's number.
 pub data Answer : Type 0 where
@@ -24,8 +22,3 @@ abbrev pub slotSays : List ℕ → ℕ → Slot → Answer
 slotSays words s Slot.Filled = filledAt (place words s)
 slotSays words s Slot.Empty = empty
 slotSays words s (Slot.Refused n) = refused n
-
--- what `open_check` says: the number of the question that refuses, none where the table passed
-abbrev pub openedSays : Opened → Option ℕ
-openedSays Opened.Passed = none
-openedSays (Opened.Refused n) = some n

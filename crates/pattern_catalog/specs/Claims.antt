@@ -1,16 +1,12 @@
 -- What callers may rely on, as statements; proofs/ has a proof of each under the name given beside it. Definitions only.
-use Prim.Native.Nat.{ℕ, _+_, _*_, _≤_, _<_}
+use Prim.Native.Nat.{ℕ}
 use mathlib.Core.Path.{_≡_}
-use mathlib.Core.Bool.{true, false}
 use mathlib.Core.List.{List, []}
-use mathlib.Core.Option.{none}
 use lib.ListN.{length}
-use lib.Ieee.{Float}
-use Rattle.table_blocks.specs.Blocks.{filled, onesIn, place}
-use Rattle.pattern_entry.specs.Entry.{bytesAt, entrySound}
-use Rattle.pattern_catalog.specs.Answers.{filledAt, empty, refused, slotSays}
-use Rattle.pattern_catalog.specs.SlotRead.{slotIn, slotRead, partOf}
-use Rattle.pattern_catalog.specs.Opening.{opening}
+use Rattle.table_blocks.specs.Blocks.{place}
+use Rattle.pattern_entry.specs.Entry.{bytesAt}
+use Rattle.pattern_catalog.specs.Answers.{slotSays}
+use Rattle.pattern_catalog.specs.SlotRead.{slotRead, partOf}
 use Rattle.pattern_catalog.specs.declared.Slot.{Slot}
 
 -- ---- the slot read's two calls, proofs/Parts
@@ -28,37 +24,3 @@ PartFilled = (slots : ℕ) (words packed : List ℕ) (s : ℕ) → slotSays word
 abbrev pub PartEmpty : Type 0
 PartEmpty = (slots : ℕ) (words packed : List ℕ) (s : ℕ) (r : Slot) → slotSays words s r ≡ slotRead slots words packed s
     → (r ≡ Slot.Filled → ⊥) → partOf packed (slotRead slots words packed s) ≡ []
-
--- ---- what a passed opening check gives every later read, proofs/Passed
-
--- At a filled slot: the read finds it at its place, which is the number of filled slots below it; its 22 bytes lie inside the section, and it is sound.
-pub record Held (slots : ℕ) (words packed : List ℕ) (stars : List Float) (s : ℕ) : Type 0 where
-  pub found : slotRead slots words packed s ≡ filledAt (place words s)
-  pub counted : place words s ≡ onesIn words 0 s
-  pub inside : place words s * 22 + 22 ≤ length packed
-  pub sound : entrySound stars (bytesAt packed (place words s)) ≡ true
-
--- Each filled slot's entry is held so: `passed-filled`.
-abbrev pub PassedFilled : Type 0
-PassedFilled = (slots : ℕ) (words packed : List ℕ) (stars : List Float) → opening slots words packed stars ≡ none
-    → (s : ℕ) → s < slots → filled words s ≡ true → Held slots words packed stars s
-
--- Each slot that isn't filled reads as empty: `passed-empty`.
-abbrev pub PassedEmpty : Type 0
-PassedEmpty = (slots : ℕ) (words packed : List ℕ) (stars : List Float) → opening slots words packed stars ≡ none
-    → (s : ℕ) → s < slots → filled words s ≡ false → slotRead slots words packed s ≡ empty
-
--- No index past the last slot is filled: `passed-past`.
-abbrev pub PassedPast : Type 0
-PassedPast = (slots : ℕ) (words packed : List ℕ) (stars : List Float) → opening slots words packed stars ≡ none
-    → (s : ℕ) → slots ≤ s → filled words s ≡ false
-
--- No read of a slot below the count is refused: `passed-never-refused`.
-abbrev pub PassedNeverRefused : Type 0
-PassedNeverRefused = (slots : ℕ) (words packed : List ℕ) (stars : List Float) → opening slots words packed stars ≡ none
-    → (s : ℕ) → s < slots → (n : ℕ) → slotRead slots words packed s ≡ refused n → ⊥
-
--- Question 9 says yes to every entry that such a read finds: `passed-sound`.
-abbrev pub PassedSound : Type 0
-PassedSound = (slots : ℕ) (words packed : List ℕ) (stars : List Float) → opening slots words packed stars ≡ none
-    → (s : ℕ) → s < slots → (p : ℕ) → slotIn words packed s ≡ filledAt p → entrySound stars (bytesAt packed p) ≡ true

@@ -2,7 +2,7 @@
 use Prim.Native.Nat.{ℕ}
 use mathlib.Core.List.{List, []}
 use lib.Dec.{ltb}
-use Rattle.pattern_entry.specs.Ask.{ask}
+use Rattle.star_slice.specs.Ask.{ask}
 use Rattle.table_blocks.specs.Blocks.{tableFits, filled, place}
 use Rattle.pattern_entry.specs.Entry.{bytesAt, inSection}
 use Rattle.pattern_catalog.specs.Answers.{Answer, filledAt, empty, refused}

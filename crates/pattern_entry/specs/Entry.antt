@@ -1,15 +1,14 @@
 -- The packed entries. Definitions only. Document 01: "The bytes are four star indices (u32), largest edge (f32), mark (u16), little-endian."
 -- A byte past the end of a list reads as 0.
 use Prim.Native.Nat.{ℕ, _+_, _*_}
-use mathlib.Core.Bool.{Bool, _&&_}
+use mathlib.Core.Bool.{Bool}
 use mathlib.Core.List.{List, [], _∷_}
-use lib.Dec.{leb, eqb}
+use lib.Dec.{leb}
 use lib.ListN.{length, getD, take, drop}
-use lib.Ieee.{Float, binary32, ofBits}
+use lib.Ieee.{binary32, ofBits}
 use Rattle.float.specs.Bytes.{wordOf}
-use Rattle.pattern_entry.specs.Stars.{starSound}
+use Rattle.star_slice.specs.declared.StarIndex.{StarIndex}
 use Rattle.pattern_entry.specs.declared.PatternEntry.{PatternEntry}
-use Rattle.pattern_entry.specs.declared.StarIndex.{StarIndex}
 
 -- the 22 bytes of the entry at a place of the packed section
 unfoldable pub bytesAt : List ℕ → ℕ → List ℕ
@@ -40,9 +39,3 @@ entryRead e = record {
   edge = ofBits binary32 (wordAt e 16);
   mark = markOf e;
 }
-
--- Question 9 for an entry's bytes: they are whole, and each of the four stars is sound. An empty part isn't.
-unfoldable pub entrySound : List Float → List ℕ → Bool
-entrySound stars e =
-    eqb (length e) 22
-    && (starSound stars (wordAt e 0) && (starSound stars (wordAt e 4) && (starSound stars (wordAt e 8) && starSound stars (wordAt e 12))))

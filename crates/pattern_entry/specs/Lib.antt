@@ -1,5 +1,1 @@
-pub mod Ask
-pub mod Stars
 pub mod Entry
-pub mod Shortcuts
-pub mod Claims

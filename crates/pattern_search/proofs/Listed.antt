@@ -7,13 +7,14 @@ use mathlib.Core.List.{List, [], _∷_, map}
 use mathlib.Core.Bool.{Bool, true, false, cond}
 use mathlib.Core.Option.{Option, none, some}
 use Rattle.candidates.specs.declared.Candidate.{Candidate}
-use Rattle.preprocess.specs.Questions.{centroidsFit, coordinatesFit, orderFits}
+use Rattle.preprocess.specs.Questions.{centroidsFit, coordinatesFit}
+use Rattle.brightness_list.specs.Order.{orderFits}
 use Rattle.passes.specs.Passes.{passesFit}
-use Rattle.pattern_entry.specs.Ask.{ask}
-use Rattle.pattern_entry.specs.Stars.{starsFit}
+use Rattle.star_slice.specs.Ask.{ask}
+use Rattle.star_slice.specs.Stars.{starsFit}
 use Rattle.table_blocks.specs.Blocks.{tableFits}
 use Rattle.search_feed.specs.Claims.{settingsOk}
-use Rattle.pattern_catalog.proofs.Passed.{passed}
+use Rattle.opening.proofs.Passed.{passed}
 use Rattle.undivided_run.specs.declared.State.{State}
 use Rattle.undivided_run.specs.declared.Status.{Status}
 use Rattle.undivided_run.specs.declared.Next.the-variants.{Ends}

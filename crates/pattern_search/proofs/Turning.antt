@@ -12,7 +12,8 @@ use Rattle.combinations.specs.Fours.{Rising}
 use Rattle.key_hash.specs.Key.{homeOf}
 use Rattle.table_blocks.specs.Blocks.{tableFits, filled as slotFilled, place}
 use Rattle.pattern_catalog.proofs.Slots.{fits-few}
-use Rattle.pattern_entry.specs.Entry.{bytesAt, entryRead, entrySound}
+use Rattle.pattern_entry.specs.Entry.{bytesAt, entryRead}
+use Rattle.sound_entries.specs.Sound.{entrySound}
 use Rattle.candidates.specs.declared.Candidate.{Candidate}
 use Rattle.candidates.specs.declared.Tested.{Tested}
 use Rattle.candidates.specs.declared.Tested.the-variants.{Over, Hit}

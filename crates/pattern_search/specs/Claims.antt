@@ -10,7 +10,8 @@ use Rattle.key_hash.specs.Key.{markOf}
 use Rattle.pattern.specs.Edges.{edgesOf}
 use Rattle.table_blocks.specs.Blocks.{filled, place}
 use Rattle.pattern_entry.specs.Entry.{bytesAt, entryRead}
-use Rattle.candidates.specs.Tests.{starsOf, measuredOf}
+use Rattle.star_directions.specs.Directions.{starsOf}
+use Rattle.candidates.specs.Tests.{measuredOf}
 use Rattle.candidates.specs.Claims.{Agrees}
 use Rattle.candidates.specs.declared.Candidate.{Candidate}
 use Rattle.undivided_run.specs.declared.Position.{Position}

@@ -6,7 +6,7 @@ use mathlib.Core.List.{List, [], _∷_, map}
 use mathlib.Core.Option.{none, some}
 use lib.ListN.{take}
 use Rattle.candidates.specs.declared.Candidate.{Candidate}
-use Rattle.pattern_catalog.specs.Opening.{opening}
+use Rattle.opening.specs.Opening.{opening}
 use Rattle.undivided_run.specs.declared.State.{State}
 use Rattle.undivided_run.specs.declared.Status.{Status}
 use Rattle.undivided_run.specs.declared.Next.the-variants.{Ends}

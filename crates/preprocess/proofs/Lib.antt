@@ -1,3 +1,2 @@
 pub mod Coordinates
-pub mod Orders
 pub mod Units

@@ -1,6 +1,6 @@
 -- What callers rest on, as statements; proofs/ has a proof of each under the name given beside it. Definitions only.
 use mathlib.Core.Path.{_≡_}
-use Prim.Native.Nat.{ℕ, _+_, _*_, _≤_, _<_}
+use Prim.Native.Nat.{_+_, _*_, _<_}
 use mathlib.Core.Bool.{true, false}
 use mathlib.Core.List.{List, [], _∷_}
 use lib.IntN.{pos, negsuc}
@@ -9,9 +9,8 @@ use lib.ListN.{length, getD}
 use lib.Ieee.{Float, nan, fin, binary32, round, le, lt}
 use Rattle.float_order.specs.Value.{zero32, one32}
 use Rattle.float_order.specs.Interval.{In}
-use Rattle.preprocess.specs.Questions.{centroidsFit, coordinatesFit, orderFits}
-use Rattle.preprocess.specs.Vectors.{unitOf, centroidOf, vectorOf}
-use Rattle.preprocess.specs.declared.Place.{Place}
+use Rattle.preprocess.specs.Questions.{coordinatesFit}
+use Rattle.preprocess.specs.Vectors.{unitOf, vectorOf}
 use Rattle.preprocess.specs.declared.CentroidIndex.{CentroidIndex}
 
 -- a coordinate that question 2 lets through: from -32,768 to 32,768
@@ -37,15 +36,6 @@ UnitVectors = (x y s : Float) → Coordinate x → Coordinate y → Scale s → 
 abbrev pub CentroidVectors : Type 0
 CentroidVectors = (c : List Float) (i : CentroidIndex) (s : Float)
     → coordinatesFit c ≡ true → 2 * (i .0) + 1 < length c → Scale s → UnitVector (vectorOf c i s)
-
--- Past question 3 each place of the brightness list has its centroid: `places-have-centroids`.
-abbrev pub PlacesHaveCentroids : Type 0
-PlacesHaveCentroids = (order : List ℕ) (c : List Float) (p : Place)
-    → orderFits order c ≡ true → p .0 < length order → 2 * (centroidOf order p .0) + 1 < length c
-
--- Past questions 1 and 3 the brightness list has at most 256 places: `places-at-most-256`.
-abbrev pub PlacesAtMost256 : Type 0
-PlacesAtMost256 = (order : List ℕ) (c : List Float) → centroidsFit c ≡ true → orderFits order c ≡ true → length order ≤ 256
 
 -- Spot (3, 0), scale 0.25: the f32 nearest 0.6, 0, nearest 0.8: `spot`.
 abbrev pub Spot : Type 0

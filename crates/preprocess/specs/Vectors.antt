@@ -1,10 +1,9 @@
--- Places, centroid indices and unit vectors. Definitions only.
-use Prim.Native.Nat.{ℕ, _+_, _*_}
+-- Centroid indices and unit vectors. Definitions only.
+use Prim.Native.Nat.{_+_, _*_}
 use mathlib.Core.List.{List, [], _∷_}
 use lib.ListN.{getD}
 use lib.Ieee.{Float, nan, binary32, ofBits, add, mul, div}
 use Rattle.square_root.specs.Root.{rootOf}
-use Rattle.preprocess.specs.declared.Place.{Place}
 use Rattle.preprocess.specs.declared.CentroidIndex.{CentroidIndex}
 
 abbrev pub one : Float
@@ -23,10 +22,6 @@ overNorm u v = div binary32 u (normOf u v) ∷ div binary32 v (normOf u v) ∷ d
 unfoldable pub unitOf : Float → Float → Float → List Float
 unfolding overNorm
 unitOf x y scale = overNorm (mul binary32 x scale) (mul binary32 y scale)
-
--- the centroid at a place of the brightness list
-unfoldable pub centroidOf : List ℕ → Place → CentroidIndex
-centroidOf order p = record { 0 = getD order (p .0) 0 }
 
 -- the unit vector of a centroid: pairs of f32, x then y
 unfoldable pub vectorOf : List Float → CentroidIndex → Float → List Float

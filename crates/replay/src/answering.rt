@@ -5,9 +5,9 @@ use crate::lines::open_line;
 use crate::lines::slot_line;
 use crate::lines::stream_line;
 use crate::lines::sweep_line;
+use brightness_list::Place;
 use candidates::Candidate;
-use pattern_entry::StarIndex;
-use preprocess::Place;
+use star_slice::StarIndex;
 use stream::Desk;
 use stream::option;
 use stream::with_state;
@@ -109,7 +109,7 @@ pub fn calls(
 
 // The opening check and its line.
 pub fn open_record(slots: u64, table: &[u64], packed: &[u8], stars: &[f32]) {
-    open_line(pattern_catalog::open_check(slots, table, packed, stars));
+    open_line(opening::open_check(slots, table, packed, stars));
 }
 
 // A slot read and its line.

@@ -1,16 +1,16 @@
 // The lines that the answers are written as.
+use brightness_list::Place;
 use candidates::Candidate;
 use complete::Completed;
 use complete::Completion;
 use complete::Row;
 use fov_sweep::Swept;
 use libc::STDOUT_FILENO;
-use pattern_catalog::Opened;
+use opening::Opened;
 use pattern_catalog::Slot;
-use pattern_entry::StarIndex;
 use pattern_search::Answer;
 use pattern_search::Searched;
-use preprocess::Place;
+use star_slice::StarIndex;
 use undivided_run::State;
 use undivided_run::Status;
 

@@ -8,10 +8,11 @@ use mathlib.Core.List.{List}
 use lib.ListN.{length, take, drop, length-take, length-drop}
 use lib.Ieee.{Float}
 use borrow.Author.Tests.{leb-false, ne-eqb}
-use Rattle.preprocess.specs.declared.Place.{Place}
+use Rattle.brightness_list.specs.declared.Place.{Place}
 use Rattle.key_hash.specs.Key.{homeOf, markOf}
-use Rattle.pattern_entry.specs.Ask.{ask}
-use Rattle.pattern_entry.specs.Entry.{bytesAt, inSection, entryRead, entrySound}
+use Rattle.star_slice.specs.Ask.{ask}
+use Rattle.pattern_entry.specs.Entry.{bytesAt, inSection, entryRead}
+use Rattle.sound_entries.specs.Sound.{entrySound}
 use Rattle.pattern_entry.specs.declared.PatternEntry.{PatternEntry}
 use Rattle.table_blocks.specs.Blocks.{filled, place}
 use Rattle.pattern_catalog.specs.Answers.{filledAt, empty, refused, foundSays}

@@ -6,8 +6,9 @@ use native.Mathlib.Decide.{decLe}
 use mathlib.Core.Bool.{Bool, true, false, cond}
 use mathlib.Core.Option.{none, some}
 use Rattle.table_blocks.specs.Blocks.{filled, place}
-use Rattle.pattern_catalog.proofs.Passed.{passed-filled, passed-past}
-use Rattle.pattern_entry.specs.Entry.{bytesAt, entrySound}
+use Rattle.opening.proofs.Passed.{passed-filled, passed-past}
+use Rattle.pattern_entry.specs.Entry.{bytesAt}
+use Rattle.sound_entries.specs.Sound.{entrySound}
 use Rattle.undivided_run.specs.Undivided.{cases}
 use Rattle.search_feed.specs.Feed.{entryAt, feed}
 use Rattle.search_feed.specs.Claims.{OpenedSound}

@@ -17,7 +17,7 @@ use Rattle.combinations.specs.Fours.{Rising}
 use Rattle.combinations.specs.Lists.{All}
 use Rattle.combinations.proofs.Lists.{all-append, all-take}
 use Rattle.preprocess.specs.Claims.{Scale, UnitVector}
-use Rattle.preprocess.proofs.Orders.{places-have-centroids}
+use Rattle.brightness_list.proofs.Orders.{places-have-centroids}
 use Rattle.preprocess.proofs.Units.{centroid-vectors}
 use Rattle.passes.specs.Passes.{scaleFits, passAt}
 use Rattle.passes.proofs.Laws.{passes-fitting}

@@ -2,12 +2,13 @@
 use mathlib.Core.Path.{_≡_}
 use mathlib.Core.Bool.{Bool, true}
 use mathlib.Core.Option.{none}
-use Rattle.preprocess.specs.Questions.{centroidsFit, coordinatesFit, orderFits}
+use Rattle.preprocess.specs.Questions.{centroidsFit, coordinatesFit}
+use Rattle.brightness_list.specs.Order.{orderFits}
 use Rattle.tolerance.specs.Tolerances.{settingsFit}
 use Rattle.search_feed.specs.declared.SearchConfig.{SearchConfig}
 use Rattle.passes.specs.Passes.{passesFit}
 use Rattle.table_blocks.specs.Blocks.{tableFits}
-use Rattle.pattern_catalog.specs.Opening.{opening}
+use Rattle.opening.specs.Opening.{opening}
 use Rattle.undivided_run.specs.Exists.{Keyed, Within, Opened}
 use Rattle.search_feed.specs.Data.{Frame, Data}
 use Rattle.search_feed.specs.Feed.{feed}

@@ -6,11 +6,13 @@ use mathlib.Core.Option.{Option, none, some}
 use lib.ListN.{length}
 use lib.Ieee.{Float}
 use Rattle.combinations.specs.declared.Four.{Four}
-use Rattle.preprocess.specs.declared.Place.{Place}
+use Rattle.brightness_list.specs.declared.Place.{Place}
 use Rattle.key_hash.specs.Key.{homeOf, markOf}
 use Rattle.table_blocks.specs.Blocks.{filled, place}
-use Rattle.pattern_entry.specs.Entry.{bytesAt, entryRead, entrySound}
-use Rattle.candidates.specs.Tests.{testOf, rebuildOf}
+use Rattle.pattern_entry.specs.Entry.{bytesAt, entryRead}
+use Rattle.sound_entries.specs.Sound.{entrySound}
+use Rattle.comparisons.specs.Comparisons.{rebuildOf}
+use Rattle.candidates.specs.Tests.{testOf}
 use Rattle.candidates.specs.declared.Candidate.{Candidate}
 use Rattle.candidates.specs.declared.Tested.{Tested}
 use Rattle.candidates.specs.declared.Tested.the-variants.{Over, Hit}

@@ -6,12 +6,14 @@ use lib.IntN.{pos}
 use lib.ListN.{getD}
 use lib.Ieee.{Float, fin}
 use Rattle.combinations.specs.declared.Four.{Four}
-use Rattle.preprocess.specs.declared.Place.{Place}
+use Rattle.brightness_list.specs.declared.Place.{Place}
 use Rattle.key_hash.specs.Key.{markOf}
-use Rattle.pattern_entry.specs.declared.StarIndex.{StarIndex}
+use Rattle.star_slice.specs.declared.StarIndex.{StarIndex}
 use Rattle.table_blocks.specs.Blocks.{filled, place}
-use Rattle.pattern_entry.specs.Entry.{star, bytesAt, entryRead, entrySound}
-use Rattle.candidates.specs.Tests.{testOf, rebuildOf}
+use Rattle.pattern_entry.specs.Entry.{star, bytesAt, entryRead}
+use Rattle.sound_entries.specs.Sound.{entrySound}
+use Rattle.comparisons.specs.Comparisons.{rebuildOf}
+use Rattle.candidates.specs.Tests.{testOf}
 use Rattle.candidates.specs.declared.Image.{Image}
 use Rattle.candidates.specs.declared.Candidate.{Candidate}
 use Rattle.candidates.specs.declared.Tested.{Tested}

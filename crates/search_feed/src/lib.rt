@@ -15,13 +15,13 @@ ghost use Rattle.search_feed.specs.Image.{imageOf, fourOf, directionsOf}
 ghost use Rattle.search_feed.specs.Desk.{noImage, emptyDesk, PassDesk, FourDesk, ForPass, ForFour, Prepared};
 ghost use Rattle.search_feed.specs.Look.{placesIn, noCandidate, blank, lookedOf, entryLook, lookIn};
 ghost use Rattle.search_feed.specs.Claims.{settingsOk, Asked5};
+use brightness_list::Place;
 use candidates::Candidate;
 use candidates::Image;
 use candidates::Tested;
 use combinations::Four;
 use pattern_catalog::Found;
-use pattern_entry::StarIndex;
-use preprocess::Place;
+use star_slice::StarIndex;
 use tolerance::Tolerance;
 use undivided_run::Cap;
 use undivided_run::Position;
@@ -308,7 +308,7 @@ fn look_tested(
     match tested {
         Tested::Over => blank(Seen::Passed),
         Tested::Hit(f) => {
-            let rebuild = candidates::needs_rebuild(f, field, radius);
+            let rebuild = comparisons::needs_rebuild(f, field, radius);
             let candidate = Candidate {
                 pass,
                 places,
@@ -341,7 +341,7 @@ fn look_entry(
     requires { ⌜ (entry * 22 + 22 ≤ length (now packed)) × (config .bins ≤ 4096) ⌝ }
     ensures { λ r. ⌜ r ≡ entryLook (bytesAt (now (packed .entry)) entry) slot hash four pass image config field (now (stars .entry)) ⌝ }
 {
-    if !pattern_entry::entry_sound_at(stars, packed, entry) {
+    if !sound_entries::entry_sound_at(stars, packed, entry) {
         return blank(Seen::Unsound);
     }
     let a = entry as usize * 22;

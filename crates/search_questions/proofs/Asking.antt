@@ -6,11 +6,12 @@ use mathlib.Core.Bool.{Bool, true, false}
 use mathlib.Core.List.{List}
 use mathlib.Core.Option.{Option, none, some}
 use lib.Ieee.{Float}
-use Rattle.preprocess.specs.Questions.{centroidsFit, coordinatesFit, orderFits}
+use Rattle.preprocess.specs.Questions.{centroidsFit, coordinatesFit}
+use Rattle.brightness_list.specs.Order.{orderFits}
 use Rattle.passes.specs.Passes.{passesFit}
-use Rattle.pattern_entry.specs.Ask.{ask}
+use Rattle.star_slice.specs.Ask.{ask}
 use Rattle.table_blocks.specs.Blocks.{tableFits}
-use Rattle.pattern_entry.specs.Stars.{starsFit}
+use Rattle.star_slice.specs.Stars.{starsFit}
 use Rattle.search_feed.specs.Data.{Frame, frameOf}
 use Rattle.search_feed.specs.Claims.{Asked5, settingsOk}
 use Rattle.search_feed.specs.declared.SearchConfig.{SearchConfig}

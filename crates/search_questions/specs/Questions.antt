@@ -3,11 +3,12 @@ use Prim.Native.Nat.{ℕ}
 use mathlib.Core.List.{List}
 use mathlib.Core.Option.{Option, none, some}
 use lib.Ieee.{Float}
-use Rattle.preprocess.specs.Questions.{centroidsFit, coordinatesFit, orderFits}
+use Rattle.preprocess.specs.Questions.{centroidsFit, coordinatesFit}
+use Rattle.brightness_list.specs.Order.{orderFits}
 use Rattle.passes.specs.Passes.{passesFit}
-use Rattle.pattern_entry.specs.Ask.{ask}
+use Rattle.star_slice.specs.Ask.{ask}
 use Rattle.table_blocks.specs.Blocks.{tableFits}
-use Rattle.pattern_entry.specs.Stars.{starsFit}
+use Rattle.star_slice.specs.Stars.{starsFit}
 use Rattle.undivided_run.specs.declared.State.{State}
 use Rattle.undivided_run.specs.Eight.{eightOk}
 use Rattle.undivided_run.specs.Undivided.{cases}

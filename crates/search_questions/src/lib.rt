@@ -46,7 +46,7 @@ pub fn first_seven(
     if !preprocess::coordinates_fit(centroids) {
         return Asked::No(2);
     }
-    if !preprocess::order_fits(order, centroids) {
+    if !brightness_list::order_fits(order, centroids) {
         return Asked::No(3);
     }
     if !settings_ok(config) {
@@ -58,7 +58,7 @@ pub fn first_seven(
     if !table_blocks::table_fits(slots, words) {
         return Asked::No(6);
     }
-    if !pattern_entry::stars_fit(stars) {
+    if !star_slice::stars_fit(stars) {
         return Asked::No(7);
     }
     Asked::Clear

@@ -20,11 +20,11 @@ use Rattle.undivided_run.specs.Step.{start}
 use Rattle.float_order.specs.Value.{zero32, one32, pi32}
 use Rattle.tolerance.specs.declared.Tolerance.{Tolerance}
 use Rattle.tolerance.specs.Tolerances.{optionFits, narrowFits, settingsFit}
-use Rattle.pattern_entry.specs.Ask.{ask, every}
+use Rattle.star_slice.specs.Ask.{ask, every}
 use Rattle.pattern_entry.specs.Entry.{bytesAt}
-use Rattle.pattern_entry.specs.Stars.{starsFit}
+use Rattle.star_slice.specs.Stars.{starsFit}
 use Rattle.table_blocks.specs.Blocks.{tableFits}
-use Rattle.pattern_catalog.specs.Opening.{opening, indexRight, slotSound}
+use Rattle.opening.specs.Opening.{opening, indexRight, slotSound}
 use Rattle.pattern_catalog.specs.Answers.{Answer, filledAt, empty, refused}
 use Rattle.fov_sweep.specs.Sweep.{sweepFits}
 use Rattle.numbers_received.specs.Received.{optionOf, binsOf, configOf, positionOf, unknown, endedOf, stateOf}

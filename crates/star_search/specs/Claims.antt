@@ -15,7 +15,7 @@ use Rattle.search_feed.specs.Feed.{feed}
 use Rattle.search_feed.specs.Claims.{settingsOk}
 use Rattle.pattern_catalog.specs.Answers.{Answer}
 use Rattle.pattern_catalog.specs.SlotRead.{partOf}
-use Rattle.pattern_catalog.specs.Opening.{opening}
+use Rattle.opening.specs.Opening.{opening}
 use Rattle.fov_sweep.specs.Sweep.{sweepFits}
 use Rattle.numbers_received.specs.Received.{optionOf, configOf, stateOf}
 use Rattle.numbers_handed.specs.Handed.{openedNumber, plainNumbers, stateNumbers, partNumbers}

@@ -6,13 +6,13 @@ ghost use Rattle.undivided_run.specs.Step.{searchCall};
 ghost use Rattle.search_feed.specs.Data.{frameOf, dataOf};
 ghost use Rattle.pattern_search.specs.Answers.{lentOf, searched};
 ghost use Rattle.pattern_catalog.specs.SlotRead.{slotRead};
-ghost use Rattle.pattern_catalog.specs.Opening.{opening};
+ghost use Rattle.opening.specs.Opening.{opening};
 ghost use Rattle.fov_sweep.specs.Sweep.{sweptOf, laterOf};
 ghost use Rattle.complete.specs.Completing.{completedOf};
 ghost use Rattle.numbers_received.specs.Received.{optionOf, configOf, stateOf, candidateOf};
 ghost use Rattle.numbers_handed.specs.Handed.{openedNumber, answerOf, slotNumbers, partNumbers, sweptNumbers, completedNumbers};
+use opening::Opened;
 use pattern_catalog::Found;
-use pattern_catalog::Opened;
 use pattern_catalog::Slot;
 use star_numbers::StarAnswer;
 use star_numbers::StarCandidate;
@@ -28,7 +28,7 @@ use star_numbers::StarSwept;
 pub extern "C" fn star_open(slots: u64, words: &[u64], packed: &[u8], stars: &[f32]) -> u32
     ensures { λ r. ⌜ r ≡ openedNumber (opening slots (now (words .entry)) (now (packed .entry)) (now (stars .entry))) ⌝ }
 {
-    match pattern_catalog::open_check(slots, words, packed, stars) {
+    match opening::open_check(slots, words, packed, stars) {
         Opened::Passed => 0,
         Opened::Refused(n) => n,
     }

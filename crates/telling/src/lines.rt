@@ -1,10 +1,10 @@
 // The words and numbers of the lines.
+use brightness_list::Place;
 use candidates::Candidate;
 use combinations::Four;
 use libc::STDOUT_FILENO;
-use pattern_catalog::Opened;
-use pattern_entry::StarIndex;
-use preprocess::Place;
+use opening::Opened;
+use star_slice::StarIndex;
 use undivided_run::Position;
 use undivided_run::State;
 use undivided_run::Status;
@@ -178,7 +178,7 @@ pub fn table_line(slots: u64, words: &[u64], packed: &[u8], stars: &[f32]) {
     count(slots, b" slot, ", b" slots, ");
     count(packed.len() as u64 / 22, b" pattern, ", b" patterns, ");
     count(stars.len() as u64 / 3, b" star; ", b" stars; ");
-    match pattern_catalog::open_check(slots, words, packed, stars) {
+    match opening::open_check(slots, words, packed, stars) {
         Opened::Passed => text(b"opening check passed\n"),
         Opened::Refused(n) => refusal_line(n),
     }

@@ -3,7 +3,7 @@ ghost use mathlib.Core.Path.{_≡_};
 ghost use mathlib.Core.Bool.{true};
 ghost use Prim.Native.Nat.{_≤_, _<_, _/_};
 ghost use lib.ListN.{length};
-ghost use Rattle.preprocess.specs.Questions.{orderFits};
+ghost use Rattle.brightness_list.specs.Order.{orderFits};
 use crate::lines::count;
 use crate::lines::number;
 use crate::lines::spaced;
@@ -74,7 +74,7 @@ pub fn pass_line(coords: &[f32], places: &[u32], triples: &[f32], checking: u32,
     if places.len() <= 256 {
         if checking <= 64 {
             if (pass as usize) < triples.len() / 3 {
-                if preprocess::order_fits(places, coords) {
+                if brightness_list::order_fits(places, coords) {
                     thinned(coords, places, triples, checking, pass);
                 }
             }

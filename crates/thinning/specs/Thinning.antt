@@ -5,7 +5,8 @@ use mathlib.Core.Bool.{Bool, true, false, cond, _||_}
 use mathlib.Core.List.{List, [], _∷_, _++_, map}
 use lib.ListN.{length, getD, take}
 use lib.Ieee.{Float, nan, binary32, add, mul, lt}
-use Rattle.preprocess.specs.Vectors.{centroidOf, vectorOf}
+use Rattle.preprocess.specs.Vectors.{vectorOf}
+use Rattle.brightness_list.specs.Order.{centroidOf}
 
 -- the dot product of two directions, added from left to right
 unfoldable pub dot : List Float → List Float → Float

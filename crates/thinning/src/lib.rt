@@ -3,9 +3,9 @@ ghost use mathlib.Core.Path.{_≡_};
 ghost use mathlib.Core.Bool.{true};
 ghost use Prim.Native.Nat.{_≤_};
 ghost use lib.ListN.{length, take};
-ghost use Rattle.preprocess.specs.Questions.{orderFits};
+ghost use Rattle.brightness_list.specs.Order.{orderFits};
 ghost use Rattle.thinning.specs.Thinning.{dot, crowded, spotAt, Kept};
-use preprocess::Place;
+use brightness_list::Place;
 
 // The dot product of two directions, added from left to right.
 fn dot(a: [f32; 3], b: [f32; 3]) -> f32
@@ -52,7 +52,11 @@ pub fn thin(
             return kept as u32;
         }
         let p = i as u32;
-        let v = preprocess::unit_vector(centroids, preprocess::centroid_of(order, Place(p)), scale);
+        let v = preprocess::unit_vector(
+            centroids,
+            brightness_list::centroid_of(order, Place(p)),
+            scale,
+        );
         if !is_crowded(cosine, v, &*dirs, kept) {
             places[kept] = p;
             dirs[kept] = v;

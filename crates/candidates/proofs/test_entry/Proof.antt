@@ -4,7 +4,9 @@ use mathlib.Core.Bool.{true}
 use denote.Ref.{now}
 use borrow.Author.Tests.{not-true, not-false}
 use Rattle.pattern.specs.Edges.{edgesOf, ratiosOf}
-use Rattle.candidates.specs.Tests.{starsOf, nearField, inside, measuredOf}
+use Rattle.star_directions.specs.Directions.{starsOf}
+use Rattle.comparisons.specs.Comparisons.{nearField, inside}
+use Rattle.candidates.specs.Tests.{measuredOf}
 use Rattle.candidates.proofs.Testing.{other-mark, far-field, outside, unsound, hit}
 use borrow.Author.Needs.{needs}
 use Rattle.candidates.proofs.test_entry.Statement.{statement}

@@ -1,5 +1,5 @@
 use mathlib.Core.Path.{sym, ap, _∙_}
-use Rattle.pattern_catalog.specs.Answers.{openedSays}
+use Rattle.opening.specs.Answers.{openedSays}
 use Rattle.catalog_c.specs.Numbers.{numberOf}
 use borrow.Author.Needs.{needs}
 use Rattle.catalog_c.proofs.catalog_open.Statement.{statement}

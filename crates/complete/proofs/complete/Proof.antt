@@ -3,12 +3,15 @@ use mathlib.Core.Path.{_≡_, sym, ap, ap₂, _∙_}
 use mathlib.Core.Bool.{true}
 use denote.Ref.{now}
 use borrow.Author.Tests.{not-true, not-false}
-use Rattle.preprocess.specs.Questions.{centroidsFit, coordinatesFit, orderFits}
+use Rattle.preprocess.specs.Questions.{centroidsFit, coordinatesFit}
+use Rattle.brightness_list.specs.Order.{orderFits}
 use Rattle.passes.specs.Passes.{passesFit}
-use Rattle.pattern_entry.specs.Stars.{starsFit}
+use Rattle.star_slice.specs.Stars.{starsFit}
 use Rattle.complete.specs.Answers.{vectors, completedAs}
-use Rattle.complete.specs.Completing.{candidateFits, fourSound, scaleOf, imageVectors, matchedOf}
-use Rattle.complete.proofs.Places.{places-held, pass-exists, places-rise, stars-held}
+use Rattle.candidate_questions.specs.Questions.{candidateFits, fourSound}
+use Rattle.image_vectors.specs.Vectors.{scaleOf, imageVectors, matchedOf}
+use Rattle.candidate_questions.proofs.Given.{pass-exists, places-rise, stars-held}
+use Rattle.image_vectors.proofs.Places.{places-held}
 use Rattle.complete.proofs.Saying.{and-said}
 use Rattle.complete.proofs.Asking.{no-1, no-2, no-3, no-5, no-7, no-14, no-9, all-yes}
 use borrow.Author.Needs.{needs}

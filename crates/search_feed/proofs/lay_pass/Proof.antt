@@ -1,5 +1,5 @@
 use mathlib.Core.Path.{refl}
-use Rattle.preprocess.proofs.Orders.{places-at-most-256}
+use Rattle.brightness_list.proofs.Orders.{places-at-most-256}
 use Rattle.search_feed.proofs.Limits.{fitting}
 use Rattle.search_feed.proofs.Desks.{pass-again, pass-thinned}
 use borrow.Author.Needs.{needs}

@@ -1,5 +1,5 @@
 use mathlib.Core.Path.{sym, ap, _∙_}
-use Rattle.pattern_catalog.specs.Answers.{openedSays}
+use Rattle.opening.specs.Answers.{openedSays}
 use Rattle.numbers_handed.specs.Handed.{openedNumber}
 use borrow.Author.Needs.{needs}
 use Rattle.star_search.proofs.star_open.Statement.{statement}

@@ -6,7 +6,7 @@ use native.Mathlib.Numerals.{add-one}
 use borrow.Author.Needs.{needs}
 use borrow.Author.Tests.{not-true, not-false}
 use lib.ListN.{length, take}
-use Rattle.preprocess.proofs.Orders.{places-have-centroids}
+use Rattle.brightness_list.proofs.Orders.{places-have-centroids}
 use Rattle.preprocess.specs.Vectors.{vectorOf}
 use Rattle.thinning.specs.Thinning.{crowded, spotAt}
 use Rattle.thinning.proofs.Laws.{Thinned, thin-none, thin-skip, thin-keep, thin-all, thin-cut}

@@ -2,7 +2,7 @@ use native.Mathlib.Omega.{arith}
 use borrow.Author.Tests.{not-true, not-false}
 use borrow.Author.Needs.{needs}
 use Rattle.search_feed.specs.Data.{frameOf, dataOf}
-use Rattle.pattern_entry.proofs.StarSlice.{fit-few}
+use Rattle.star_slice.proofs.StarSlice.{fit-few}
 use Rattle.search_questions.proofs.Asking.{seven-asked, seven-stars}
 use Rattle.search_feed.proofs.Laid.{empty-pass, empty-four}
 use Rattle.pattern_search.proofs.Calling.{call-eight, call-zero, call-run, ready}

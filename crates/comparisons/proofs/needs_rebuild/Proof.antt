@@ -1,0 +1,16 @@
+-- `comparisons::needs_rebuild` meets its contract. Assumes nothing.
+use lib.Ieee.{ofBits}
+use Rattle.comparisons.specs.Comparisons.{rebuildOf}
+use borrow.Author.Needs.{needs}
+use Rattle.comparisons.proofs.needs_rebuild.Statement.{statement}
+use Rattle.comparisons.proofs.needs_rebuild.Tie as tie
+
+magnitude-requires : tie.Need-magnitude-requires
+magnitude-requires c κs = search needs
+
+returns : tie.Need-returns
+unfolding rebuildOf ofBits
+returns c = simp (c .magnitude .ensures)
+
+pub needs-rebuild-spec : {M : Type 1} → statement M
+needs-rebuild-spec = tie.close (tie.spec magnitude-requires returns)

@@ -1,0 +1,38 @@
+-- Document 01, "One search": what is compared with the image and with the pass. Definitions only.
+use mathlib.Core.Bool.{Bool, true, not, _&&_}
+use mathlib.Core.List.{List}
+use lib.ListN.{getD}
+use lib.Ieee.{Float, nan, binary32, ofBits, add, sub, mul, div, lt}
+use Rattle.float.specs.Magnitude.{magnitudeOf}
+use Rattle.tolerance.specs.declared.Tolerance.{Tolerance}
+use Rattle.tolerance.specs.declared.Tolerance.the-variants.{Given, Absent}
+
+-- 0.25 and 1
+abbrev pub quarter : Float
+quarter = ofBits binary32 0x3E80_0000
+
+abbrev pub one : Float
+one = ofBits binary32 0x3F80_0000
+
+-- "With a field-of-view error, an entry whose stored edge / image edge · pass field differs from the pass field by more is passed over."
+-- A difference that is a NaN isn't more.
+unfoldable pub nearField : Tolerance → Float → Float → Float → Bool
+nearField Absent stored edge field = true
+nearField (Given most) stored edge field = not (lt most (magnitudeOf (sub binary32 (mul binary32 (div binary32 stored edge) field) field)))
+
+-- strictly inside the tolerance about a ratio
+unfoldable pub insideOne : Float → Float → Float → Bool
+insideOne ratio e x = lt (sub binary32 ratio e) x && lt x (add binary32 ratio e)
+
+-- "Then the ratios of the four stars are compared, strictly, with ratio − e and ratio + e"
+unfoldable pub inside : List Float → Float → List Float → Bool
+inside r e x =
+    insideOne (getD r 0 nan) e (getD x 0 nan)
+    && (insideOne (getD r 1 nan) e (getD x 1 nan)
+    && (insideOne (getD r 2 nan) e (getD x 2 nan)
+    && (insideOne (getD r 3 nan) e (getD x 3 nan)
+    && insideOne (getD r 4 nan) e (getD x 4 nan))))
+
+-- "The mark is set when |field/pass field − 1| > 0.25·`match_radius`."
+unfoldable pub rebuildOf : Float → Float → Float → Bool
+rebuildOf measured field radius = lt (mul binary32 quarter radius) (magnitudeOf (sub binary32 (div binary32 measured field) one))
