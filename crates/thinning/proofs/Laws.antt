@@ -5,10 +5,11 @@ use native.Mathlib.Omega.{arith}
 use mathlib.Core.Bool.{Bool, true, false, cond, _||_}
 use mathlib.Core.List.{List, [], _∷_, _++_, map, append-assoc, append-nil}
 use native.Mathlib.Nat.{zero-add, suc-add}
-use lib.ListN.{length, getD, take, drop, set, length-append, length-take, length-set, length-map, take-append-drop}
+use lib.ListN.{length, take, drop, set, length-append, length-take, length-set, length-map, take-append-drop}
 use lib.Seq.{take-suc, take-suc-set, take-append-seam, take-add, take-all}
 use lib.Ieee.{Float, lt}
 use Rattle.thinning.specs.Thinning.{dot, crowded, thinned, keptOf, Kept}
+use Rattle.thinning.specs.Columns.{rowAt, rowsOf}
 
 -- ---- a crowd
 module _ (c : Float) (v : List Float) where
@@ -25,21 +26,22 @@ module _ (c : Float) (v : List Float) where
   or-true true = refl
   or-true false = refl
 
-  module _ (dirs : List (List Float)) (n : ℕ) (long : n ≤ length dirs) where
-    pub crowd-none : crowded c v (take 0 dirs) ≡ false
-    unfolding crowded
-    crowd-none = refl
+  or-false : (a : Bool) → (a || false) ≡ a
+  or-false true = refl
+  or-false false = refl
 
-    pub crowd-more : (j : ℕ) → j < n → crowded c v (take j dirs) ≡ false → lt c (dot v (getD dirs j [])) ≡ false → crowded c v (take (suc j) dirs) ≡ false
-    unfolding crowded
-    crowd-more j l h k = rw (take-suc dirs j [] (omega arith), crowded-append, h, k)
+  module _ (cols : List Float) where
+    pub near-none : false ≡ crowded c v (rowsOf cols 0)
+    unfolding crowded rowsOf
+    near-none = refl
 
-    pub crowd-hit : (j : ℕ) → j < n → lt c (dot v (getD dirs j [])) ≡ true → true ≡ crowded c v (take n dirs)
-    unfolding crowded
-    crowd-hit j l k = sym (ap (λ m. crowded c v (take m dirs)) e ∙ rw (take-add, crowded-append, take-suc dirs j [] (omega arith), crowded-append, k, or-true) refl)
-      where
-        e : n ≡ suc j + (n - suc j)
-        e = omega arith
+    pub near-yes : (j : ℕ) → lt c (dot v (rowAt cols j)) ≡ true → true ≡ crowded c v (rowsOf cols (suc j))
+    unfolding crowded rowsOf
+    near-yes j k = rw (crowded-append, k, or-true)
+
+    pub near-no : (j : ℕ) → lt c (dot v (rowAt cols j)) ≡ false → crowded c v (rowsOf cols j) ≡ crowded c v (rowsOf cols (suc j))
+    unfolding crowded rowsOf
+    near-no j k = rw (crowded-append, k, or-false)
 
 -- ---- the kept list
 module _ (c : Float) (spot : ℕ → List Float) where

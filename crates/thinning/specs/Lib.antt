@@ -1,1 +1,2 @@
 pub mod Thinning
+pub mod Columns

@@ -1,36 +1,51 @@
 use Prim.Native.Nat.{_≤_, _-_}
-use mathlib.Core.Path.{_≡_, sym, ap, _∙_, subst}
-use mathlib.Core.Bool.{false}
+use mathlib.Core.Path.{_≡_, sym, ap, _∙_}
+use mathlib.Core.Logic.{⊎-elim}
 use native.Mathlib.Omega.{arith}
 use native.Mathlib.Numerals.{add-one}
 use borrow.Author.Needs.{needs}
-use lib.ListN.{take}
 use lib.Ieee.{lt}
 use Rattle.thinning.specs.Thinning.{crowded}
-use Rattle.thinning.proofs.Laws.{crowd-none, crowd-more, crowd-hit}
+use Rattle.thinning.specs.Columns.{rowAt, rowsOf}
+use Rattle.thinning.proofs.Laws.{near-none, near-yes, near-no}
 use Rattle.thinning.proofs.is_crowded.Statement.{statement}
 use Rattle.thinning.proofs.is_crowded.Tie as tie
 
 abbrev Inv-loop : tie.InvT-loop
-Inv-loop cosine v dirs n j₀ j = (j ≤ n) × (crowded cosine v (take j dirs) ≡ false)
+Inv-loop cosine v cols n near₀ j₀ near j = (j ≤ n) × (near ≡ crowded cosine v (rowsOf cols j))
 
 abbrev μ-loop : tie.MeasureT-loop
-μ-loop cosine v dirs n j₀ j = n - j
+μ-loop cosine v cols n near₀ j₀ near j = n - j
 
 loop-holds : tie.Need-loop-holds Inv-loop μ-loop
-loop-holds c = (omega arith, crowd-none _ _ (c .args .dirs .now) 0 (omega arith))
+loop-holds c = (omega arith, near-none (c .args .cosine) (c .args .v) (c .args .cols .now))
 
-mul-w : tie.Need-mul-w Inv-loop μ-loop
-mul-w c = search needs
+mul-x : tie.Need-mul-x Inv-loop μ-loop
+mul-x c = search needs
 
-element-copy-out-w : tie.Need-element-copy-out-w Inv-loop μ-loop
-element-copy-out-w c = search needs
+element-copy-out-x : tie.Need-element-copy-out-x Inv-loop μ-loop
+element-copy-out-x c = search needs
+
+add-y : tie.Need-add-y Inv-loop μ-loop
+add-y c = search needs
+
+mul-y : tie.Need-mul-y Inv-loop μ-loop
+mul-y c = search needs
+
+element-copy-out-y : tie.Need-element-copy-out-y Inv-loop μ-loop
+element-copy-out-y c = search needs
+
+add-z : tie.Need-add-z Inv-loop μ-loop
+add-z c = search needs
+
+mul-z : tie.Need-mul-z Inv-loop μ-loop
+mul-z c = search needs
+
+element-copy-out-z : tie.Need-element-copy-out-z Inv-loop μ-loop
+element-copy-out-z c = search needs
 
 dot-requires : tie.Need-dot-requires Inv-loop μ-loop
 dot-requires c κs = search needs
-
-returns : tie.Need-returns Inv-loop μ-loop
-returns c = crowd-hit _ _ _ (c .before .before .before .before .before .args .n) (omega arith) (c .before .before .before .before .loop .j) (omega arith) (ap (lt _) (sym (c .before .dot .ensures)) ∙ c .if1 .taken)
 
 add-j : tie.Need-add-j Inv-loop μ-loop
 add-j c = search needs
@@ -39,10 +54,26 @@ loop-less : tie.Need-loop-less Inv-loop μ-loop
 loop-less c = search needs
 
 loop-again : tie.Need-loop-again Inv-loop μ-loop
-loop-again c = (omega arith, rw add-one (crowd-more _ _ _ (c .before .before .before .before .before .args .n) (omega arith) (c .before .before .before .before .loop .j) (omega arith) (c .before .before .before .before .loop .inv .1) (ap (lt _) (sym (c .before .dot .ensures)) ∙ c .if1 .left)))
+unfolding rowAt
+loop-again c =
+    let b = c .before .before .before .before .before .before in
+    let a = b .before .args in
+    let l = b .loop in
+    let d = ap (lt (a .cosine)) (sym (c .before .dot .ensures)) in (
+      omega arith,
+      rw add-one
+          (⊎-elim
+          (λ w. w .1 ∙ near-yes (a .cosine) (a .v) (a .cols .now) (l .j) (d ∙ w .0 .taken))
+          (λ w. w .1 ∙ l .inv .1 ∙ near-no (a .cosine) (a .v) (a .cols .now) (l .j) (d ∙ w .0 .left))
+          (c .if1 .came)),
+    )
 
-returns-2 : tie.Need-returns-2 Inv-loop μ-loop
-returns-2 c = let e : c .before .loop .j ≡ c .before .before .args .n = omega arith in sym (subst (λ k. crowded (c .before .before .args .cosine) (c .before .before .args .v) (take k (c .before .before .args .dirs .now)) ≡ false) e (c .before .loop .inv .1))
+returns : tie.Need-returns Inv-loop μ-loop
+returns c =
+    let a = c .before .before .args in
+    let l = c .before .loop in
+    let e : l .j ≡ a .n = omega arith in
+    l .inv .1 ∙ ap (λ k. crowded (a .cosine) (a .v) (rowsOf (a .cols .now) k)) e
 
 pub is-crowded-spec : {M : Type 1} → statement M
 is-crowded-spec =
@@ -51,11 +82,16 @@ is-crowded-spec =
     Inv-loop
     μ-loop
     loop-holds
-    mul-w
-    element-copy-out-w
+    mul-x
+    element-copy-out-x
+    add-y
+    mul-y
+    element-copy-out-y
+    add-z
+    mul-z
+    element-copy-out-z
     dot-requires
-    returns
     add-j
     loop-less
     loop-again
-    returns-2)
+    returns)

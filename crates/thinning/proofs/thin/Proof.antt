@@ -1,5 +1,5 @@
 use Prim.Native.Nat.{_≤_, _-_}
-use mathlib.Core.Path.{_≡_, refl, sym, ap, _∙_, subst}
+use mathlib.Core.Path.{_≡_, refl, sym, ap, ap₂, _∙_}
 use mathlib.Core.Logic.{⊎-elim}
 use native.Mathlib.Omega.{arith}
 use native.Mathlib.Numerals.{add-one}
@@ -9,24 +9,30 @@ use lib.ListN.{length, take}
 use Rattle.brightness_list.proofs.Orders.{places-have-centroids}
 use Rattle.preprocess.specs.Vectors.{vectorOf}
 use Rattle.thinning.specs.Thinning.{crowded, spotAt}
+use Rattle.thinning.specs.Columns.{rowsOf}
+use Rattle.thinning.proofs.Columns.{rows-grow}
 use Rattle.thinning.proofs.Laws.{Thinned, thin-none, thin-skip, thin-keep, thin-all, thin-cut}
 use Rattle.thinning.proofs.thin.Statement.{statement}
 use Rattle.thinning.proofs.thin.Tie as tie
 
 abbrev Inv-loop : tie.InvT-loop
-Inv-loop centroids order scale cosine most places₀ dirs₀ cut kept₀ i₀ places dirs kept i = (i ≤ length order) × (cut ≡ most) × Thinned cosine (spotAt centroids order scale) most i kept places dirs
+Inv-loop centroids order scale cosine most places₀ dirs₀ cut cols₀ kept₀ i₀ places dirs cols kept i = (i ≤ length order) × (cut ≡ most) × (length cols ≡ 192) × (rowsOf cols kept ≡ take kept dirs) × Thinned cosine (spotAt centroids order scale) most i kept places dirs
 
 abbrev μ-loop : tie.MeasureT-loop
-μ-loop centroids order scale cosine most places₀ dirs₀ cut kept₀ i₀ places dirs kept i = length order - i
+μ-loop centroids order scale cosine most places₀ dirs₀ cut cols₀ kept₀ i₀ places dirs cols kept i = length order - i
+
+no-columns-requires : tie.Need-no-columns-requires Inv-loop μ-loop
+no-columns-requires c κs = search needs
 
 loop-holds : tie.Need-loop-holds Inv-loop μ-loop
-loop-holds c = (omega arith, omega arith, thin-none _ _ _ _ _ (c .before .before .pre .3) (c .before .before .pre .4))
+unfolding rowsOf
+loop-holds c = let s = c .before .before .before in (omega arith, refl, c .no-columns .ensures, refl, thin-none _ _ _ _ _ (s .pre .3) (s .pre .4))
 
 cast-result : tie.Need-cast-result Inv-loop μ-loop
 cast-result c = search needs
 
 returns : tie.Need-returns Inv-loop μ-loop
-returns c = let l = c .before .before .loop in thin-cut _ _ _ _ _ _ _ (l .inv .2) _ (l .inv .0) (omega arith)
+returns c = let l = c .before .before .loop in thin-cut _ _ _ _ _ _ _ (l .inv .4) _ (l .inv .0) (omega arith)
 
 cast-p : tie.Need-cast-p Inv-loop μ-loop
 cast-p c = search needs
@@ -35,7 +41,7 @@ centroid-of-requires : tie.Need-centroid-of-requires Inv-loop μ-loop
 centroid-of-requires c κs = search needs
 
 unit-vector-requires : tie.Need-unit-vector-requires Inv-loop μ-loop
-unit-vector-requires c κs = let a = c .before .before .before .before .before .before .args in rw (c .centroid-of .ensures) (places-have-centroids (a .order .now) (a .centroids .now) _ (c .before .before .before .before .before .before .pre .0) (omega arith))
+unit-vector-requires c κs = let s = c .before .before .before .before .before .before .before in let a = s .args in rw (c .centroid-of .ensures) (places-have-centroids (a .order .now) (a .centroids .now) _ (s .pre .0) (omega arith))
 
 is-crowded-requires : tie.Need-is-crowded-requires Inv-loop μ-loop
 is-crowded-requires c κs = search needs
@@ -52,6 +58,9 @@ mul-v c = search needs
 element-set-from-v : tie.Need-element-set-from-v Inv-loop μ-loop
 element-set-from-v c = search needs
 
+lay-row-requires : tie.Need-lay-row-requires Inv-loop μ-loop
+lay-row-requires c κs = search needs
+
 add-kept : tie.Need-add-kept Inv-loop μ-loop
 add-kept c = search needs
 
@@ -65,19 +74,32 @@ loop-again : tie.Need-loop-again Inv-loop μ-loop
 loop-again c =
     let b = c .before .before .before .before .before .before .before in
     let l = b .loop in
-    let a = b .before .before .before .args in
-    let v : c .before .before .before .unit-vector .result ≡ spotAt (a .centroids .now) (a .order .now) (a .scale) (l .i) = c .before .before .before .unit-vector .ensures ∙ ap (λ z. vectorOf (a .centroids .now) z (a .scale)) (c .before .before .before .before .centroid-of .ensures) in
-    let k : crowded (a .cosine) (spotAt (a .centroids .now) (a .order .now) (a .scale) (l .i)) (take (l .kept) (l .dirs)) ≡ c .before .is-crowded .result = ap (λ z. crowded (a .cosine) z (take (l .kept) (l .dirs))) (sym v) ∙ sym (c .before .is-crowded .ensures) in
+    let a = b .before .before .before .before .args in
+    let spot = spotAt (a .centroids .now) (a .order .now) (a .scale) (l .i) in
+    let v : c .before .before .before .unit-vector .result ≡ spot = c .before .before .before .unit-vector .ensures ∙ ap (λ z. vectorOf (a .centroids .now) z (a .scale)) (c .before .before .before .before .centroid-of .ensures) in
+    let k : crowded (a .cosine) spot (take (l .kept) (l .dirs)) ≡ c .before .is-crowded .result = ap₂ (crowded (a .cosine)) (sym v) (sym (l .inv .3)) ∙ sym (c .before .is-crowded .ensures) in
     ⊎-elim
-    (λ w. (omega arith, refl, rw (w .1, w .2, w .3, add-one, add-one) (thin-keep _ _ _ _ _ _ _ (l .inv .2) (k ∙ not-true _ (w .0 .taken)) (omega arith) (omega arith) _ v)))
-    (λ w. (omega arith, refl, rw (w .1, w .2, w .3, add-one) (thin-skip _ _ _ _ _ _ _ (l .inv .2) (k ∙ not-false _ (w .0 .left)))))
+    (λ w. (
+      omega arith,
+      refl,
+      rw (w .5) (w .2 .ensures .0),
+      rw (w .4, w .5, w .6) (rows-grow _ _ (l .dirs) _ (l .kept) (omega (arith, l .inv .4 .dirs-long)) (w .2 .ensures .1) (l .inv .3)),
+      rw (w .3, w .4, w .6, add-one, add-one) (thin-keep _ _ _ _ _ _ _ (l .inv .4) (k ∙ not-true _ (w .0 .taken)) (omega arith) (omega arith) _ v),
+    ))
+    (λ w. (
+      omega arith,
+      refl,
+      rw (w .3) (l .inv .2),
+      rw (w .2, w .3, w .4) (l .inv .3),
+      rw (w .1, w .2, w .4, add-one) (thin-skip _ _ _ _ _ _ _ (l .inv .4) (k ∙ not-false _ (w .0 .left))),
+    ))
     (c .if2 .came)
 
 cast-result-2 : tie.Need-cast-result-2 Inv-loop μ-loop
 cast-result-2 c = search needs
 
 returns-2 : tie.Need-returns-2 Inv-loop μ-loop
-returns-2 c = let l = c .before .loop in thin-all _ _ _ _ _ _ _ (l .inv .2) _ (omega arith)
+returns-2 c = let l = c .before .loop in thin-all _ _ _ _ _ _ _ (l .inv .4) _ (omega arith)
 
 pub thin-spec : {M : Type 1} → statement M
 thin-spec =
@@ -85,6 +107,7 @@ thin-spec =
     (tie.spec
     Inv-loop
     μ-loop
+    no-columns-requires
     loop-holds
     cast-result
     returns
@@ -96,6 +119,7 @@ thin-spec =
     element-write-places
     mul-v
     element-set-from-v
+    lay-row-requires
     add-kept
     add-i
     loop-less
