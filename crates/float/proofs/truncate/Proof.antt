@@ -1,34 +1,22 @@
-use Rattle.float.proofs.Truncation.{low, high, within}
-use native.Mathlib.Omega.{arith}
-use lib.Ieee.{ofBits, neg, toUnsigned}
-use lib.Dec.{T}
-use mathlib.Core.Path.{sym, subst, _∙_}
+use mathlib.Core.Path.{sym, subst}
 use borrow.Author.Needs.{needs}
+use lib.Dec.{T}
+use lib.Ieee.{ofBits}
 use Rattle.float.proofs.truncate.Statement.{statement}
 use Rattle.float.proofs.truncate.Tie as tie
 
-truncating-f32-to-u64-requires : tie.Need-truncating-f32-to-u64-requires
-unfolding ofBits neg
-truncating-f32-to-u64-requires c κs = (subst T (sym (c .before .if1 .taken)) tt, subst T (sym (c .if2 .taken)) tt)
-
-cast-result : tie.Need-cast-result
-cast-result c = search needs
+truncate-small-requires : tie.Need-truncate-small-requires
+unfolding ofBits
+truncate-small-requires c κs = (subst T (sym (c .before .if1 .taken)) tt, subst T (sym (c .if2 .taken)) tt)
 
 returns : tie.Need-returns
-returns c = omega (arith, within (c .before .before .before .before .args .x))
+returns c = c .truncate-small .ensures
+
+truncate-any-requires : tie.Need-truncate-any-requires
+truncate-any-requires c κs = search needs
 
 returns-2 : tie.Need-returns-2
-returns-2 c = omega (arith, within (c .before .before .before .before .args .x))
-
-returns-3 : tie.Need-returns-3
-unfolding ofBits neg
-returns-3 c = high (c .before .before .args .x) (c .before .if1 .taken) (c .if2 .left)
-
-returns-4 : tie.Need-returns-4
-unfolding ofBits neg
-returns-4 c = low (c .before .args .x) (c .if1 .left)
+returns-2 c = c .truncate-any .ensures
 
 pub truncate-spec : {M : Type 1} → statement M
-truncate-spec =
-    tie.close
-    (tie.spec truncating-f32-to-u64-requires cast-result returns returns-2 returns-3 returns-4)
+truncate-spec = tie.close (tie.spec truncate-small-requires returns truncate-any-requires returns-2)
