@@ -19,8 +19,8 @@ use Rattle.undivided_run.proofs.Turns.{begun-good, search-zero, search-run}
 use Rattle.search_feed.specs.Data.{Data}
 use Rattle.search_feed.specs.Feed.{feed}
 use Rattle.search_feed.specs.Look.{noCandidate}
-use Rattle.search_feed.specs.Desk.{PassDesk, FourDesk}
-use Rattle.search_feed.specs.declared.Held.{Held}
+use Rattle.search_desk.specs.Desk.{PassDesk, FourDesk}
+use Rattle.search_desk.specs.declared.Held.{Held}
 use Rattle.search_feed.proofs.Limits.{every-four-keyed, within-limits}
 use Rattle.search_questions.specs.Questions.{firstSeven, firstNo, askedOf}
 use Rattle.pattern_search.specs.Answers.{lentOf, said, shown, searched}
@@ -74,8 +74,8 @@ module _ (D : Data) (st : State) (a : ℕ) where
         call-run p y ye = ye ∙ ap searched (ap (goesOn (feed D) (D .frame .config .cap) st a) walk-begun ∙ sym (search-run (feed D) (D .frame .config .cap) st a p) ∙ sym passed)
 
         -- the call is ready for its first read
-        pub ready : (h : Held) (places : List ℕ) (dirs : List (List Float)) (hashes : List ℕ) → PassDesk (D .frame) h places dirs → FourDesk (D .frame) h hashes → Ready D walk h places dirs hashes
-        ready h places dirs hashes p f =
+        pub ready : (h : Held) (places : List ℕ) (measures : List Float) (hashes : List ℕ) → PassDesk (D .frame) h places measures → FourDesk (D .frame) h hashes → Ready D walk h places measures hashes
+        ready h places measures hashes p f =
             let q = seven-asked (D .frame) (D .slots) (D .words) (D .stars) s in
             let t = seven-table (D .frame) (D .slots) (D .words) (D .stars) s in
             record {

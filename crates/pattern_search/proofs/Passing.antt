@@ -17,8 +17,8 @@ use Rattle.undivided_run.specs.Exists.{Keyed}
 use Rattle.undivided_run.specs.Good.{Good, goesOn}
 use Rattle.search_feed.specs.Data.{Data}
 use Rattle.search_feed.specs.Feed.{feed}
-use Rattle.search_feed.specs.Desk.{ForPass, ForFour}
-use Rattle.search_feed.specs.declared.Held.{Held}
+use Rattle.search_desk.specs.Desk.{ForPass, ForFour}
+use Rattle.search_desk.specs.declared.Held.{Held}
 use Rattle.search_feed.proofs.Limits.{every-four-keyed}
 use Rattle.quiet_reads.specs.Stands.{stand}
 use Rattle.quiet_reads.specs.Quiet.{atKey, Leads}
@@ -28,7 +28,7 @@ use Rattle.quiet_reads.proofs.Standing.{stand-leads}
 use Rattle.pattern_search.specs.Answers.{searched}
 use Rattle.pattern_search.specs.Turns.{passedOf, Ready, TurnedBy, Turned}
 use Rattle.pattern_search.specs.declared.Turn.{Turn}
-use Rattle.search_feed.proofs.Laid.{laid-pass, laid-four}
+use Rattle.search_desk.proofs.Laid.{laid-pass, laid-four}
 use Rattle.pattern_search.proofs.Turning.{here-of}
 
 module _ (w : Walk) (p : Position) (s : Stand) (a : ℕ) where
@@ -74,13 +74,13 @@ module _ (w : Walk) (p : Position) (s : Stand) (a : ℕ) where
     pub passes : Passes D
     passes = ⊎-elim none-passed some-passed (eq-or-lt-of-le {n = s .left} {m = a} (l .fewer))
 
-module _ (D : Data) (w : Walk) (p : Position) (h0 h : Held) (places places0 : List ℕ) (dirs dirs0 : List (List Float)) (hashes hashes0 : List ℕ) (y : Ready D w h0 places0 dirs0 hashes0) (e : w .next ≡ goes p) (f : ForPass (D .frame) (p .pass) h places dirs) (o : ForFour (D .frame) (p .pass) (p .four) h hashes) where
+module _ (D : Data) (w : Walk) (p : Position) (h0 h : Held) (places places0 : List ℕ) (measures measures0 : List Float) (hashes hashes0 : List ℕ) (y : Ready D w h0 places0 measures0 hashes0) (e : w .next ≡ goes p) (f : ForPass (D .frame) (p .pass) h places measures) (o : ForFour (D .frame) (p .pass) (p .four) h hashes) where
   -- the fast way through the keys of the desk
   module _ (a : ℕ) (s : Stand) (se : s ≡ stand (D .words) (D .packed) (D .stars) (D .slots) hashes (h .keys - (p .key + 1)) (p .key) (p .probe) a) where
     leads : Leads (feed D) p a (s .left) (atKey p (s .key) (s .probe))
     unfolding feed
     leads =
-        let n = here-of D w p h0 places0 dirs0 hashes0 y e in
+        let n = here-of D w p h0 places0 measures0 hashes0 y e in
         let k : p .key < h .keys = subst (λ x. p .key < x) (sym (o .held .count)) (n .key) in
         subst (λ (t : Stand). Leads (feed D) p a (t .left) (atKey p (t .key) (t .probe))) (sym se)
         (stand-leads D p hashes (h .keys) (o .held .count) (o .held .hash) (h .keys - (p .key + 1)) (p .key) (p .probe) a (omega arith) (n .probe))
@@ -89,20 +89,20 @@ module _ (D : Data) (w : Walk) (p : Position) (h0 h : Held) (places places0 : Li
     through-passes = passes w p s a D (y .good) e (every-four-keyed D (y .asked)) leads
 
     -- the call is ready for the read that the way leads to
-    pub passed-ready : (v : Walk) → v ≡ passedOf w p s a → Ready D v h places dirs hashes
+    pub passed-ready : (v : Walk) → v ≡ passedOf w p s a → Ready D v h places measures hashes
     passed-ready v ve =
         record {
           asked = y .asked;
           table = y .table;
           good = rw ve (through-passes .good);
-          pass = laid-pass (D .frame) (p .pass) h places dirs f;
+          pass = laid-pass (D .frame) (p .pass) h places measures f;
           four = laid-four (D .frame) (p .pass) (p .four) h hashes o (f .is);
         }
 
 -- a turn from there is a turn from here
-pub turned-from : (D : Data) (st : State) (a left : ℕ) (w v : Walk) (places : List ℕ) (dirs : List (List Float)) (hashes : List ℕ) (u : Turn) → left ≤ a → goesOn (feed D) (D .frame .config .cap) st left v ≡ goesOn (feed D) (D .frame .config .cap) st a w → Turned D st left v places dirs hashes u → Turned D st a w places dirs hashes u
-turned-from D st a left w v places dirs hashes u h e t = by (u .more) t
+pub turned-from : (D : Data) (st : State) (a left : ℕ) (w v : Walk) (places : List ℕ) (measures : List Float) (hashes : List ℕ) (u : Turn) → left ≤ a → goesOn (feed D) (D .frame .config .cap) st left v ≡ goesOn (feed D) (D .frame .config .cap) st a w → Turned D st left v places measures hashes u → Turned D st a w places measures hashes u
+turned-from D st a left w v places measures hashes u h e t = by (u .more) t
   where
-    by : (b : Bool) → TurnedBy D b st left v places dirs hashes u → TurnedBy D b st a w places dirs hashes u
+    by : (b : Bool) → TurnedBy D b st left v places measures hashes u → TurnedBy D b st a w places measures hashes u
     by true t = (omega (arith, t .0), t .1 ∙ e, t .2)
     by false t = t ∙ ap searched e

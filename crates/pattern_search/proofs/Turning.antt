@@ -33,9 +33,9 @@ use Rattle.search_feed.specs.Data.{Data}
 use Rattle.search_feed.specs.Image.{keptPlaces, placeAt, passOf}
 use Rattle.search_feed.specs.Feed.{feed, entryAt, slotAt, testedAt, ifHit, candidateOf, placesOf, hashOfRead}
 use Rattle.search_feed.specs.Look.{noCandidate, blank, placesIn, lookedOf, entryLook, lookIn, lookAt}
-use Rattle.search_feed.specs.Desk.{PassDesk, FourDesk, ForPass, ForFour}
+use Rattle.search_desk.specs.Desk.{PassDesk, FourDesk, ForPass, ForFour}
 use Rattle.search_feed.specs.Claims.{Asked5}
-use Rattle.search_feed.specs.declared.Held.{Held}
+use Rattle.search_desk.specs.declared.Held.{Held}
 use Rattle.search_feed.specs.declared.Sight.{Sight}
 use Rattle.search_feed.specs.declared.Seen.{Seen}
 use Rattle.search_feed.specs.declared.Seen.the-variants.{Empty, Unsound, Passed, Found}
@@ -47,7 +47,7 @@ use Rattle.pattern_search.specs.Turns.{stopping, goingOn, refusesOf, saw
 use Rattle.pattern_search.specs.declared.Searched.{Searched}
 use Rattle.pattern_search.specs.declared.Turn.{Turn}
 use Rattle.pattern_search.specs.declared.Answer.the-variants.{Candidate as SaidCandidate, AllowanceUsed, Ended, Refused}
-use Rattle.search_feed.proofs.Laid.{kept-64, four-below}
+use Rattle.search_desk.proofs.Laid.{kept-64, four-below}
 
 -- what a look says of a read: filled, sound, and the candidate that it gives
 abbrev pub Means : Seen → Candidate → Bool → Bool → Option Candidate → Type 0
@@ -103,13 +103,13 @@ module _ (D : Data) (r : Position) where
     entry-filled n = filled-means (x .seen) (x .candidate) (filled (feed D) r) (soundAt (feed D) (D .frame .config .cap) r) (gives (feed D) r) n m
 
 -- ---- a call between two reads
-module _ (D : Data) (w : Walk) (r : Position) (h : Held) (places : List ℕ) (dirs : List (List Float)) (hashes : List ℕ) (y : Ready D w h places dirs hashes) (e : w .next ≡ goes r) where
+module _ (D : Data) (w : Walk) (r : Position) (h : Held) (places : List ℕ) (measures : List Float) (hashes : List ℕ) (y : Ready D w h places measures hashes) (e : w .next ≡ goes r) where
   -- its next read exists
   pub here-of : Here (feed D) r
   here-of = rw e at (y .good .here)
 
   -- .. so the desk can be laid for it
-  pub lay-ready : Asked5 (D .frame) × PassDesk (D .frame) h places dirs × FourDesk (D .frame) h hashes × (r .pass < length (D .frame .passes) / 3) × Rising (length (keptPlaces (D .frame) (r .pass))) (r .four)
+  pub lay-ready : Asked5 (D .frame) × PassDesk (D .frame) h places measures × FourDesk (D .frame) h hashes × (r .pass < length (D .frame .passes) / 3) × Rising (length (keptPlaces (D .frame) (r .pass))) (r .four)
   unfolding feed
   lay-ready = (y .asked, y .pass, y .four, here-of .four .pass, here-of .four .rising)
 
@@ -118,7 +118,7 @@ module _ (D : Data) (w : Walk) (r : Position) (h : Held) (places : List ℕ) (di
   room-of = let g = good-room (feed D) (D .frame .config .cap) (every-four-keyed D (y .asked)) w r e (y .good) in (g .1, g .0)
 
 -- ---- the desk of a read
-module _ (D : Data) (r : Position) (h : Held) (places : List ℕ) (dirs : List (List Float)) (hashes : List ℕ) (a : Asked5 (D .frame)) (p : ForPass (D .frame) (r .pass) h places dirs) (o : ForFour (D .frame) (r .pass) (r .four) h hashes) (n : Here (feed D) r) where
+module _ (D : Data) (r : Position) (h : Held) (places : List ℕ) (measures : List Float) (hashes : List ℕ) (a : Asked5 (D .frame)) (p : ForPass (D .frame) (r .pass) h places measures) (o : ForFour (D .frame) (r .pass) (r .four) h hashes) (n : Here (feed D) r) where
   rises : Rising (h .kept) (r .four)
   unfolding feed
   rises = subst (λ k. Rising k (r .four)) (sym (p .held .count)) (n .four .rising)
@@ -157,15 +157,15 @@ module _ (D : Data) (r : Position) (h : Held) (places : List ℕ) (dirs : List (
   pub look-bounds : tableFits (D .slots) (D .words) ≡ true → (r .key < 1024) × (r .probe < D .slots) × (r .four .a < 64) × (r .four .b < 64) × (r .four .c < 64) × (r .four .d < 64) × (D .frame .config .bins ≤ 4096) × (tableFits (D .slots) (D .words) ≡ true) × (length places ≡ 64) × (length hashes ≡ 1024)
   unfolding feed
   look-bounds t =
-      let b = four-below (D .frame) (r .pass) h places dirs p a (r .four) rises in
+      let b = four-below (D .frame) (r .pass) h places measures p a (r .four) rises in
       (omega (arith, key-below, keys-few), n .probe, b .0, b .1, b .2, b .3, fitting (D .frame .config) (a .four) .narrow .few-bins, t, p .places-long, o .hashes-long)
 
-  pub at-read : tableFits (D .slots) (D .words) ≡ true → AtRead (D .frame) (D .slots) h r places dirs
+  pub at-read : tableFits (D .slots) (D .words) ≡ true → AtRead (D .frame) (D .slots) h r places measures
   unfolding feed
   at-read t =
       record {
         laid = p;
-        small = kept-64 (D .frame) (r .pass) h places dirs p a;
+        small = kept-64 (D .frame) (r .pass) h places measures p a;
         rising = rises;
         keys = o .held .count;
         few = keys-few;
@@ -198,25 +198,25 @@ module _ (D : Data) (st : State) (a : ℕ) (w : Walk) where
     reply-hit f s g v ve z ze = rw (turn-hit (feed D) cap st a w r e p f s g, ze, ve)
 
     -- a turn that goes on
-    turn-more : soundAt (feed D) cap r ≡ true → gives (feed D) r ≡ none → (v : Walk) → v ≡ steppedOf (feed D) cap w r → (h : Held) (places : List ℕ) (dirs : List (List Float)) (hashes : List ℕ) → Ready D v h places dirs hashes → Turned D st a w places dirs hashes (goingOn v h st (a - 1))
-    turn-more s n v ve h places dirs hashes y = (omega (arith, p), ap (goesOn (feed D) cap st (a - 1)) ve ∙ turn-passed (feed D) cap st a w r e p s n, y)
+    turn-more : soundAt (feed D) cap r ≡ true → gives (feed D) r ≡ none → (v : Walk) → v ≡ steppedOf (feed D) cap w r → (h : Held) (places : List ℕ) (measures : List Float) (hashes : List ℕ) → Ready D v h places measures hashes → Turned D st a w places measures hashes (goingOn v h st (a - 1))
+    turn-more s n v ve h places measures hashes y = (omega (arith, p), ap (goesOn (feed D) cap st (a - 1)) ve ∙ turn-passed (feed D) cap st a w r e p s n, y)
 
     -- what a sound read makes of the call
-    module _ (v : Walk) (ve : v ≡ steppedOf (feed D) cap w r) (h : Held) (places : List ℕ) (dirs : List (List Float)) (hashes : List ℕ) (y : Ready D v h places dirs hashes) where
-      told-by : (s : Seen) (x : Candidate) → refusesOf s ≡ false → Means s x (filled (feed D) r) (soundAt (feed D) cap r) (gives (feed D) r) → Turned D st a w places dirs hashes (toldOf s x v h st (a - 1))
-      told-by Empty x n m = turn-more (m .1) (m .2) v ve h places dirs hashes y
+    module _ (v : Walk) (ve : v ≡ steppedOf (feed D) cap w r) (h : Held) (places : List ℕ) (measures : List Float) (hashes : List ℕ) (y : Ready D v h places measures hashes) where
+      told-by : (s : Seen) (x : Candidate) → refusesOf s ≡ false → Means s x (filled (feed D) r) (soundAt (feed D) cap r) (gives (feed D) r) → Turned D st a w places measures hashes (toldOf s x v h st (a - 1))
+      told-by Empty x n m = turn-more (m .1) (m .2) v ve h places measures hashes y
       told-by Unsound x n m = absurd (let z : _≡_ {A = ℕ} 0 1 = cc in omega arith)
-      told-by Passed x n m = turn-more (m .1) (m .2) v ve h places dirs hashes y
+      told-by Passed x n m = turn-more (m .1) (m .2) v ve h places measures hashes y
       told-by Found x n m = reply-hit x (m .1) (m .2) v ve _ refl
 
-      pub turn-told : (x : Sight) → refusesOf (x .seen) ≡ false → Means (x .seen) (x .candidate) (filled (feed D) r) (soundAt (feed D) cap r) (gives (feed D) r) → (u : Turn) → u ≡ toldOf (x .seen) (x .candidate) v h st (a - 1) → Turned D st a w places dirs hashes u
-      turn-told x n m u ue = subst (Turned D st a w places dirs hashes) (sym ue) (told-by (x .seen) (x .candidate) n m)
+      pub turn-told : (x : Sight) → refusesOf (x .seen) ≡ false → Means (x .seen) (x .candidate) (filled (feed D) r) (soundAt (feed D) cap r) (gives (feed D) r) → (u : Turn) → u ≡ toldOf (x .seen) (x .candidate) v h st (a - 1) → Turned D st a w places measures hashes u
+      turn-told x n m u ue = subst (Turned D st a w places measures hashes) (sym ue) (told-by (x .seen) (x .candidate) n m)
 
-  pub turn-stop : (x : Searched) → x ≡ rest D st a w → (v : Walk) (h : Held) (places : List ℕ) (dirs : List (List Float)) (hashes : List ℕ) (u : Turn) → u ≡ stopping x v h → Turned D st a w places dirs hashes u
-  turn-stop x e v h places dirs hashes u ue = rw ue e
+  pub turn-stop : (x : Searched) → x ≡ rest D st a w → (v : Walk) (h : Held) (places : List ℕ) (measures : List Float) (hashes : List ℕ) (u : Turn) → u ≡ stopping x v h → Turned D st a w places measures hashes u
+  turn-stop x e v h places measures hashes u ue = rw ue e
 
 -- after a read the call is ready for the next
-pub ready-after : (D : Data) (w : Walk) (r : Position) (h g : Held) (p p2 : List ℕ) (d d2 : List (List Float)) (l l2 : List ℕ) → Ready D w h p d l → w .next ≡ goes r → (v : Walk) → v ≡ steppedOf (feed D) (D .frame .config .cap) w r → PassDesk (D .frame) g p2 d2 → FourDesk (D .frame) g l2 → Ready D v g p2 d2 l2
+pub ready-after : (D : Data) (w : Walk) (r : Position) (h g : Held) (p p2 : List ℕ) (d d2 : List Float) (l l2 : List ℕ) → Ready D w h p d l → w .next ≡ goes r → (v : Walk) → v ≡ steppedOf (feed D) (D .frame .config .cap) w r → PassDesk (D .frame) g p2 d2 → FourDesk (D .frame) g l2 → Ready D v g p2 d2 l2
 ready-after D w r h g p p2 d d2 l l2 y e v ve pd fd =
     record {
       asked = y .asked;

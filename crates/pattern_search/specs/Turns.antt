@@ -15,10 +15,10 @@ use Rattle.undivided_run.specs.Step.{settle, bump}
 use Rattle.undivided_run.specs.Good.{Good, goesOn}
 use Rattle.search_feed.specs.Data.{Data}
 use Rattle.search_feed.specs.Feed.{feed}
-use Rattle.search_feed.specs.Desk.{PassDesk, FourDesk}
+use Rattle.search_desk.specs.Desk.{PassDesk, FourDesk}
 use Rattle.search_feed.specs.Claims.{Asked5}
 use Rattle.search_feed.specs.Look.{noCandidate}
-use Rattle.search_feed.specs.declared.Held.{Held}
+use Rattle.search_desk.specs.declared.Held.{Held}
 use Rattle.search_feed.specs.declared.Seen.{Seen}
 use Rattle.search_feed.specs.declared.Seen.the-variants.{Empty, Unsound, Passed, Found}
 use Rattle.quiet_reads.specs.Quiet.{atKey}
@@ -61,11 +61,11 @@ passedOf w p s a = cond (eqb (s .left) a) w (record { next = goes (atKey p (s .k
 
 module _ (D : Data) where
   -- a call between two reads: the questions hold, the walk is good, and the desk holds what it says
-  pub record Ready (w : Walk) (h : Held) (places : List ℕ) (dirs : List (List Float)) (hashes : List ℕ) : Type 0 where
+  pub record Ready (w : Walk) (h : Held) (places : List ℕ) (measures : List Float) (hashes : List ℕ) : Type 0 where
     pub asked : Asked5 (D .frame)
     pub table : tableFits (D .slots) (D .words) ≡ true
     pub good : Good (feed D) (D .frame .config .cap) w
-    pub pass : PassDesk (D .frame) h places dirs
+    pub pass : PassDesk (D .frame) h places measures
     pub four : FourDesk (D .frame) h hashes
 
   -- the rest of the call
@@ -73,10 +73,10 @@ module _ (D : Data) where
   rest st a w = searched (goesOn (feed D) (D .frame .config .cap) st a w)
 
   -- one turn: the call's reply, or the walk after some reads and what is left of the allowance
-  abbrev pub TurnedBy : Bool → State → ℕ → Walk → List ℕ → List (List Float) → List ℕ → Turn → Type 0
-  TurnedBy false st a w places dirs hashes u = u .reply ≡ rest st a w
-  TurnedBy true st a w places dirs hashes u =
-      (u .left < a) × (goesOn (feed D) (D .frame .config .cap) st (u .left) (u .walk) ≡ goesOn (feed D) (D .frame .config .cap) st a w) × Ready (u .walk) (u .held) places dirs hashes
+  abbrev pub TurnedBy : Bool → State → ℕ → Walk → List ℕ → List Float → List ℕ → Turn → Type 0
+  TurnedBy false st a w places measures hashes u = u .reply ≡ rest st a w
+  TurnedBy true st a w places measures hashes u =
+      (u .left < a) × (goesOn (feed D) (D .frame .config .cap) st (u .left) (u .walk) ≡ goesOn (feed D) (D .frame .config .cap) st a w) × Ready (u .walk) (u .held) places measures hashes
 
-  abbrev pub Turned : State → ℕ → Walk → List ℕ → List (List Float) → List ℕ → Turn → Type 0
-  Turned st a w places dirs hashes u = TurnedBy (u .more) st a w places dirs hashes u
+  abbrev pub Turned : State → ℕ → Walk → List ℕ → List Float → List ℕ → Turn → Type 0
+  Turned st a w places measures hashes u = TurnedBy (u .more) st a w places measures hashes u

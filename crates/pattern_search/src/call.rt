@@ -15,7 +15,7 @@ use crate::Searched;
 use crate::reading::plain;
 use crate::reading::turn;
 use chains::Known;
-use search_feed::Held;
+use search_desk::Held;
 use search_feed::SearchConfig;
 use search_questions::Asked;
 use undivided_run::Next;
@@ -38,10 +38,10 @@ fn run(
     walk: Walk,
     held: Held,
     places: &mut [u32; 64],
-    dirs: &mut [[f32; 3]; 64],
+    measures: &mut [f32; 2208],
     hashes: &mut [u64; 1024],
 ) -> Searched
-    requires { ⌜ Ready (dataOf (frameOf (now centroids) (now order) config (now passes)) slots (now words) (now packed) (now stars)) walk held (now places) (now dirs) (now hashes) × (length (now stars) ≤ 3145728) ⌝ }
+    requires { ⌜ Ready (dataOf (frameOf (now centroids) (now order) config (now passes)) slots (now words) (now packed) (now stars)) walk held (now places) (now measures) (now hashes) × (length (now stars) ≤ 3145728) ⌝ }
     ensures { λ r. ⌜ r ≡ searched (goesOn (feed (dataOf (frameOf (now (centroids .entry)) (now (order .entry)) config (now (passes .entry))) slots (now (words .entry)) (now (packed .entry)) (now (stars .entry)))) (config .cap) st allowance walk) ⌝ }
 {
     let mut w = walk;
@@ -69,7 +69,7 @@ fn run(
             w,
             h,
             places,
-            dirs,
+            measures,
             hashes,
         );
         if u.more {
@@ -109,11 +109,11 @@ fn no_places() -> [u32; 64]
     [0u32; 64]
 }
 
-// Room for their directions.
-fn no_dirs() -> [[f32; 3]; 64]
-    ensures { λ r. ⌜ length r ≡ 64 ⌝ }
+// Room for their directions and angles.
+fn no_measures() -> [f32; 2208]
+    ensures { λ r. ⌜ length r ≡ 2208 ⌝ }
 {
-    [[0.0f32; 3]; 64]
+    [0.0f32; 2208]
 }
 
 // Room for the hashes of a combination's keys, at most 1,024.
@@ -140,7 +140,7 @@ fn go(
     ensures { λ r. ⌜ r ≡ searched (searchCall st (lentOf (dataOf (frameOf (now (centroids .entry)) (now (order .entry)) config (now (passes .entry))) slots (now (words .entry)) (now (packed .entry)) (now (stars .entry))) allowance)) ⌝ }
 {
     let mut places = no_places();
-    let mut dirs = no_dirs();
+    let mut measures = no_measures();
     let mut hashes = no_hashes();
     let eight = search_questions::eighth(
         centroids,
@@ -148,10 +148,10 @@ fn go(
         config,
         passes,
         slots,
-        search_feed::nothing_held(),
+        search_desk::nothing_held(),
         st,
         &mut places,
-        &mut dirs,
+        &mut measures,
         &mut hashes,
     );
     if !eight.fits {
@@ -167,7 +167,7 @@ fn go(
         st,
         desk,
         &mut places,
-        &mut dirs,
+        &mut measures,
     );
     let next = first.next;
     if allowance == 0 {
@@ -193,7 +193,7 @@ fn go(
         walk,
         laid,
         &mut places,
-        &mut dirs,
+        &mut measures,
         &mut hashes,
     )
 }

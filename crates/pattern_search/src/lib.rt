@@ -4,7 +4,7 @@ mod reading;
 
 pub use crate::call::search;
 use candidates::Candidate;
-use search_feed::Held;
+use search_desk::Held;
 use undivided_run::State;
 use undivided_run::Status;
 use undivided_run::Walk;

@@ -3,14 +3,14 @@ ghost use mathlib.Core.Path.{_≡_};
 ghost use Prim.Native.Nat.{_+_, _-_, _≤_, _<_};
 ghost use Rattle.search_feed.specs.Data.{frameOf, dataOf};
 ghost use Rattle.search_feed.specs.Look.{noCandidate};
-ghost use Rattle.search_feed.specs.Desk.{ForPass, ForFour};
+ghost use Rattle.search_desk.specs.Desk.{ForPass, ForFour};
 ghost use Rattle.chains.specs.Glances.{SoundBelow};
 ghost use Rattle.pattern_search.specs.Turns.{stopping, goingOn, refusesOf, sawEntry, toldOf, passedOf, Ready, Turned};
 use crate::Answer;
 use crate::Searched;
 use crate::Turn;
 use quiet_reads::Stand;
-use search_feed::Held;
+use search_desk::Held;
 use search_feed::SearchConfig;
 use search_feed::Seen;
 use search_feed::Sight;
@@ -137,16 +137,17 @@ fn read_turn(
     desk: Held,
     p: Position,
     places: &mut [u32; 64],
-    dirs: &mut [[f32; 3]; 64],
+    measures: &mut [f32; 2208],
     hashes: &[u64; 1024],
 ) -> Turn
-    requires { ⌜ Ready (dataOf (frameOf (now centroids) (now order) config (now passes)) slots (now words) (now packed) (now stars)) walk desk (now places) (now dirs) (now hashes) × (walk .next ≡ Next.Goes p) × ForPass (frameOf (now centroids) (now order) config (now passes)) (p .pass) desk (now places) (now dirs) × ForFour (frameOf (now centroids) (now order) config (now passes)) (p .pass) (p .four) desk (now hashes) × (0 < allowance) ⌝ }
-    ensures { λ r. ⌜ Turned (dataOf (frameOf (now (centroids .entry)) (now (order .entry)) config (now (passes .entry))) slots (now (words .entry)) (now (packed .entry)) (now (stars .entry))) st allowance walk (now (places .exit)) (now (dirs .exit)) (now (hashes .entry)) r ⌝ }
+    requires { ⌜ Ready (dataOf (frameOf (now centroids) (now order) config (now passes)) slots (now words) (now packed) (now stars)) walk desk (now places) (now measures) (now hashes) × (walk .next ≡ Next.Goes p) × ForPass (frameOf (now centroids) (now order) config (now passes)) (p .pass) desk (now places) (now measures) × ForFour (frameOf (now centroids) (now order) config (now passes)) (p .pass) (p .four) desk (now hashes) × (0 < allowance) ⌝ }
+    ensures { λ r. ⌜ Turned (dataOf (frameOf (now (centroids .entry)) (now (order .entry)) config (now (passes .entry))) slots (now (words .entry)) (now (packed .entry)) (now (stars .entry))) st allowance walk (now (places .exit)) (now (measures .exit)) (now (hashes .entry)) r ⌝ }
 {
     let field = passes::pass_at(passes, p.pass).field;
+    let image = desk.image;
     let read = search_feed::look(
         p,
-        desk,
+        image,
         &*places,
         hashes,
         config,
@@ -172,7 +173,7 @@ fn read_turn(
         saw_entry(seen),
         walk,
         places,
-        dirs,
+        measures,
     );
     let on = s.walk;
     let left = s.held;
@@ -196,11 +197,11 @@ fn read_on(
     held: Held,
     p: Position,
     places: &mut [u32; 64],
-    dirs: &mut [[f32; 3]; 64],
+    measures: &mut [f32; 2208],
     hashes: &mut [u64; 1024],
 ) -> Turn
-    requires { ⌜ Ready (dataOf (frameOf (now centroids) (now order) config (now passes)) slots (now words) (now packed) (now stars)) walk held (now places) (now dirs) (now hashes) × (walk .next ≡ Next.Goes p) × SoundBelow (now stars) sound ⌝ }
-    ensures { λ r. ⌜ Turned (dataOf (frameOf (now (centroids .entry)) (now (order .entry)) config (now (passes .entry))) slots (now (words .entry)) (now (packed .entry)) (now (stars .entry))) st allowance walk (now (places .exit)) (now (dirs .exit)) (now (hashes .exit)) r ⌝ }
+    requires { ⌜ Ready (dataOf (frameOf (now centroids) (now order) config (now passes)) slots (now words) (now packed) (now stars)) walk held (now places) (now measures) (now hashes) × (walk .next ≡ Next.Goes p) × SoundBelow (now stars) sound ⌝ }
+    ensures { λ r. ⌜ Turned (dataOf (frameOf (now (centroids .entry)) (now (order .entry)) config (now (passes .entry))) slots (now (words .entry)) (now (packed .entry)) (now (stars .entry))) st allowance walk (now (places .exit)) (now (measures .exit)) (now (hashes .exit)) r ⌝ }
 {
     let desk = search_steps::lay(
         centroids,
@@ -210,7 +211,7 @@ fn read_on(
         held,
         p,
         places,
-        dirs,
+        measures,
         hashes,
     );
     let s = quiet_reads::through(
@@ -246,7 +247,7 @@ fn read_on(
         desk,
         to,
         places,
-        dirs,
+        measures,
         &*hashes,
     )
 }
@@ -267,11 +268,11 @@ pub fn turn(
     walk: Walk,
     held: Held,
     places: &mut [u32; 64],
-    dirs: &mut [[f32; 3]; 64],
+    measures: &mut [f32; 2208],
     hashes: &mut [u64; 1024],
 ) -> Turn
-    requires { ⌜ Ready (dataOf (frameOf (now centroids) (now order) config (now passes)) slots (now words) (now packed) (now stars)) walk held (now places) (now dirs) (now hashes) × SoundBelow (now stars) sound ⌝ }
-    ensures { λ r. ⌜ Turned (dataOf (frameOf (now (centroids .entry)) (now (order .entry)) config (now (passes .entry))) slots (now (words .entry)) (now (packed .entry)) (now (stars .entry))) st allowance walk (now (places .exit)) (now (dirs .exit)) (now (hashes .exit)) r ⌝ }
+    requires { ⌜ Ready (dataOf (frameOf (now centroids) (now order) config (now passes)) slots (now words) (now packed) (now stars)) walk held (now places) (now measures) (now hashes) × SoundBelow (now stars) sound ⌝ }
+    ensures { λ r. ⌜ Turned (dataOf (frameOf (now (centroids .entry)) (now (order .entry)) config (now (passes .entry))) slots (now (words .entry)) (now (packed .entry)) (now (stars .entry))) st allowance walk (now (places .exit)) (now (measures .exit)) (now (hashes .exit)) r ⌝ }
 {
     let next = walk.next;
     match next {
@@ -300,7 +301,7 @@ pub fn turn(
                 held,
                 p,
                 places,
-                dirs,
+                measures,
                 hashes,
             )
         }

@@ -1,12 +1,11 @@
 -- The kept spots of a pass, past questions 1 to 5: their places lie in the brightness list, and their directions give edges and ratios. Assumes nothing.
-use mathlib.Core.Path.{_≡_, refl, sym, ap, _∙_}
+use mathlib.Core.Path.{_≡_, refl}
 use Prim.Native.Nat.{ℕ, zero, suc, _/_, _≤_, _<_}
 use native.Mathlib.Omega.{arith}
 use mathlib.Core.Bool.{Bool, true, false, cond, _&&_}
 use mathlib.Core.List.{List, [], _∷_, map}
 use lib.IntN.{pos}
-use lib.ListN.{length, getD, take, length-take}
-use lib.Seq.{getD-take}
+use lib.ListN.{length, getD, length-take}
 use lib.Ieee.{Float, fin, ofBits, le, lt}
 use Rattle.float_order.specs.Value.{zero32}
 use Rattle.float_order.specs.Ratios.{Ratios}
@@ -25,7 +24,7 @@ use Rattle.thinning.specs.Thinning.{crowded, thinned, keptOf}
 use Rattle.pattern.specs.Directions.{Small, Direction, Directions}
 use Rattle.pattern.proofs.Edges.{directions-ratios}
 use Rattle.search_feed.specs.Data.{Frame}
-use Rattle.search_feed.specs.Image.{spotOf, keptPlaces, placeAt, directionsOf, fourOf, imageOf}
+use Rattle.search_feed.specs.Image.{spotOf, keptPlaces, placeAt, directionsOf, imageOf}
 use Rattle.search_feed.specs.Claims.{Asked5}
 
 -- ---- kept places are places
@@ -94,23 +93,3 @@ module _ (F : Frame) (a : Asked5 F) (i : ℕ) (h : i < length (F .passes) / 3) w
 
   pub image-ratios : (q : Four) → Rising (length (keptPlaces F i)) q → Ratios (imageOf (directionsOf F i q) .ratios)
   image-ratios q r = image-ratios-of (directionsOf F i q) (directions-small q r)
-
--- ---- the directions on the desk
-map-at : {A B : Type 0} (f : A → B) (xs : List A) (d : A) (e : B) (i : ℕ) → i < length xs → getD (map f xs) i e ≡ f (getD xs i d)
-map-at f [] d e i l = absurd (omega arith)
-map-at f (x ∷ xs) d e zero l = refl
-map-at f (x ∷ xs) d e (suc i) l = map-at f xs d e i (omega arith)
-
-module _ (F : Frame) (i n : ℕ) (dirs : List (List Float)) (c : n ≡ length (keptPlaces F i)) (e : take n dirs ≡ map (spotOf F i) (keptPlaces F i)) where
-  desk-at : (x : ℕ) → x < n → getD dirs x [] ≡ spotOf F i (placeAt F i x)
-  desk-at x l = sym (getD-take n dirs x [] l) ∙ ap (λ z. getD z x []) e ∙ map-at (spotOf F i) (keptPlaces F i) 0 [] x (omega arith)
-
-  pub desk-directions : (q : Four) → Rising n q → fourOf dirs q ≡ directionsOf F i q
-  unfolding directionsOf
-  desk-directions q r =
-      rw (
-        desk-at (q .a) (omega (arith, r .ab, r .bc, r .cd, r .dn)),
-        desk-at (q .b) (omega (arith, r .bc, r .cd, r .dn)),
-        desk-at (q .c) (omega (arith, r .cd, r .dn)),
-        desk-at (q .d) (r .dn),
-      )

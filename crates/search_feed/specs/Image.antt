@@ -31,10 +31,6 @@ keysIn c m = keysFor (m .ratios) (toleranceIn c) (c .bins)
 unfoldable pub hashIn : SearchConfig → Image → ℕ → ℕ
 hashIn c m k = hashOf (getD (keysIn c m) k []) (c .bins)
 
--- the directions at four positions of a list
-abbrev pub fourOf : List (List Float) → Four → List (List Float)
-fourOf v q = getD v (q .a) [] ∷ getD v (q .b) [] ∷ getD v (q .c) [] ∷ getD v (q .d) [] ∷ []
-
 module _ (F : Frame) where
   -- pass number i
   abbrev pub passOf : ℕ → Pass

@@ -1,6 +1,5 @@
 pub mod Data
 pub mod Image
 pub mod Feed
-pub mod Desk
 pub mod Look
 pub mod Claims

@@ -6,11 +6,11 @@ ghost use lib.Ieee.{Float};
 ghost use Rattle.undivided_run.specs.Eight.{risesBelow, withinCounts, existsHere, phaseFits};
 ghost use Rattle.search_feed.specs.Data.{frameOf, dataOf};
 ghost use Rattle.search_feed.specs.Feed.{feed};
-ghost use Rattle.search_feed.specs.Desk.{PassDesk, FourDesk};
+ghost use Rattle.search_desk.specs.Desk.{PassDesk, FourDesk};
 ghost use Rattle.search_feed.specs.Claims.{Asked5, settingsOk};
 ghost use Rattle.search_questions.specs.Questions.{firstSeven, askedOf};
 use combinations::Four;
-use search_feed::Held;
+use search_desk::Held;
 use search_feed::SearchConfig;
 use undivided_run::Phase;
 use undivided_run::Position;
@@ -116,12 +116,12 @@ fn exists_here(
     held: Held,
     p: Position,
     places: &mut [u32; 64],
-    dirs: &mut [[f32; 3]; 64],
+    measures: &mut [f32; 2208],
     hashes: &mut [u64; 1024],
 ) -> EighthAnswer
-    requires { ⌜ Asked5 (frameOf (now centroids) (now order) config (now passes)) × PassDesk (frameOf (now centroids) (now order) config (now passes)) held (now places) (now dirs) × FourDesk (frameOf (now centroids) (now order) config (now passes)) held (now hashes) ⌝ }
+    requires { ⌜ Asked5 (frameOf (now centroids) (now order) config (now passes)) × PassDesk (frameOf (now centroids) (now order) config (now passes)) held (now places) (now measures) × FourDesk (frameOf (now centroids) (now order) config (now passes)) held (now hashes) ⌝ }
     ensures { λ r. ⌜ ((w e : List ℕ) (s : List Float) → r .fits ≡ existsHere (feed (dataOf (frameOf (now (centroids .entry)) (now (order .entry)) config (now (passes .entry))) slots w e s)) p) ⌝ }
-    ensures { λ r. ⌜ PassDesk (frameOf (now (centroids .entry)) (now (order .entry)) config (now (passes .entry))) (r .held) (now (places .exit)) (now (dirs .exit)) × FourDesk (frameOf (now (centroids .entry)) (now (order .entry)) config (now (passes .entry))) (r .held) (now (hashes .exit)) ⌝ }
+    ensures { λ r. ⌜ PassDesk (frameOf (now (centroids .entry)) (now (order .entry)) config (now (passes .entry))) (r .held) (now (places .exit)) (now (measures .exit)) × FourDesk (frameOf (now (centroids .entry)) (now (order .entry)) config (now (passes .entry))) (r .held) (now (hashes .exit)) ⌝ }
 {
     if config.patterns == 0 {
         return EighthAnswer { fits: false, held };
@@ -129,7 +129,16 @@ fn exists_here(
     if (passes.len() / 3) as u32 <= p.pass {
         return EighthAnswer { fits: false, held };
     }
-    let laid = search_feed::lay_pass(centroids, order, config, passes, held, p.pass, places, dirs);
+    let laid = search_desk::lay_pass(
+        centroids,
+        order,
+        config,
+        passes,
+        held,
+        p.pass,
+        places,
+        measures,
+    );
     let four = p.four;
     if !rises_below(four, laid.kept) {
         return EighthAnswer {
@@ -137,7 +146,7 @@ fn exists_here(
             held: laid,
         };
     }
-    let desk = search_feed::lay_four(config, laid, four, &*dirs, hashes);
+    let desk = search_desk::lay_four(config, laid, four, measures, hashes);
     if desk.keys <= p.key {
         return EighthAnswer {
             fits: false,
@@ -160,12 +169,12 @@ pub fn eighth(
     held: Held,
     st: State,
     places: &mut [u32; 64],
-    dirs: &mut [[f32; 3]; 64],
+    measures: &mut [f32; 2208],
     hashes: &mut [u64; 1024],
 ) -> EighthAnswer
-    requires { ⌜ Asked5 (frameOf (now centroids) (now order) config (now passes)) × PassDesk (frameOf (now centroids) (now order) config (now passes)) held (now places) (now dirs) × FourDesk (frameOf (now centroids) (now order) config (now passes)) held (now hashes) ⌝ }
+    requires { ⌜ Asked5 (frameOf (now centroids) (now order) config (now passes)) × PassDesk (frameOf (now centroids) (now order) config (now passes)) held (now places) (now measures) × FourDesk (frameOf (now centroids) (now order) config (now passes)) held (now hashes) ⌝ }
     ensures { λ r. ⌜ ((w e : List ℕ) (s : List Float) → r .fits ≡ phaseFits (feed (dataOf (frameOf (now (centroids .entry)) (now (order .entry)) config (now (passes .entry))) slots w e s)) (st .phase) (st .patterns) (st .reads)) ⌝ }
-    ensures { λ r. ⌜ PassDesk (frameOf (now (centroids .entry)) (now (order .entry)) config (now (passes .entry))) (r .held) (now (places .exit)) (now (dirs .exit)) × FourDesk (frameOf (now (centroids .entry)) (now (order .entry)) config (now (passes .entry))) (r .held) (now (hashes .exit)) ⌝ }
+    ensures { λ r. ⌜ PassDesk (frameOf (now (centroids .entry)) (now (order .entry)) config (now (passes .entry))) (r .held) (now (places .exit)) (now (measures .exit)) × FourDesk (frameOf (now (centroids .entry)) (now (order .entry)) config (now (passes .entry))) (r .held) (now (hashes .exit)) ⌝ }
 {
     let phase = st.phase;
     match phase {
@@ -192,7 +201,7 @@ pub fn eighth(
                 held,
                 p,
                 places,
-                dirs,
+                measures,
                 hashes,
             );
             let desk = here.held;

@@ -8,17 +8,17 @@ use Rattle.combinations.specs.Fours.{Rising}
 use Rattle.undivided_run.specs.declared.Position.{Position}
 use Rattle.search_feed.specs.Data.{Frame}
 use Rattle.search_feed.specs.Image.{keysIn, imageAt}
-use Rattle.search_feed.specs.Desk.{PassDesk, FourDesk, ForPass}
-use Rattle.search_feed.specs.declared.Held.{Held}
+use Rattle.search_desk.specs.Desk.{PassDesk, FourDesk, ForPass}
+use Rattle.search_desk.specs.declared.Held.{Held}
 
 -- a desk after a step: it holds what it says, and whatever array held the combination's hashes does so still
-pub record DeskAfter (F : Frame) (before after : Held) (places : List ℕ) (dirs : List (List Float)) : Type 0 where
-  pub pass : PassDesk F after places dirs
+pub record DeskAfter (F : Frame) (before after : Held) (places : List ℕ) (measures : List Float) : Type 0 where
+  pub pass : PassDesk F after places measures
   pub four : (l : List ℕ) → FourDesk F before l → FourDesk F after l
 
 -- the desk is laid for a read that exists
-pub record AtRead (F : Frame) (slots : ℕ) (h : Held) (p : Position) (places : List ℕ) (dirs : List (List Float)) : Type 0 where
-  pub laid : ForPass F (p .pass) h places dirs
+pub record AtRead (F : Frame) (slots : ℕ) (h : Held) (p : Position) (places : List ℕ) (measures : List Float) : Type 0 where
+  pub laid : ForPass F (p .pass) h places measures
   pub small : h .kept ≤ 64
   pub rising : Rising (h .kept) (p .four)
   pub keys : h .keys ≡ length (keysIn (F .config) (imageAt F (p .pass) (p .four)))

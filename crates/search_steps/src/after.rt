@@ -8,14 +8,14 @@ ghost use Rattle.undivided_run.specs.Undivided.{filled};
 ghost use Rattle.undivided_run.specs.Step.{toPass, afterFour, afterKey, nextRead};
 ghost use Rattle.search_feed.specs.Data.{frameOf, dataOf};
 ghost use Rattle.search_feed.specs.Feed.{feed};
-ghost use Rattle.search_feed.specs.Desk.{PassDesk};
+ghost use Rattle.search_desk.specs.Desk.{PassDesk};
 ghost use Rattle.search_feed.specs.Claims.{Asked5};
 ghost use Rattle.search_steps.specs.Steps.{beginOf};
 ghost use Rattle.search_steps.specs.Desks.{DeskAfter, AtRead};
 use crate::Reached;
 use combinations::Four;
 use combinations::MaybeFour;
-use search_feed::Held;
+use search_desk::Held;
 use search_feed::SearchConfig;
 use undivided_run::Next;
 use undivided_run::Position;
@@ -59,11 +59,11 @@ pub fn to_pass(
     status: Status,
     tried: u64,
     places: &mut [u32; 64],
-    dirs: &mut [[f32; 3]; 64],
+    measures: &mut [f32; 2208],
 ) -> Reached
-    requires { ⌜ Asked5 (frameOf (now centroids) (now order) config (now passes)) × PassDesk (frameOf (now centroids) (now order) config (now passes)) held (now places) (now dirs) × (from ≤ length (now passes) / 3) ⌝ }
+    requires { ⌜ Asked5 (frameOf (now centroids) (now order) config (now passes)) × PassDesk (frameOf (now centroids) (now order) config (now passes)) held (now places) (now measures) × (from ≤ length (now passes) / 3) ⌝ }
     ensures { λ r. ⌜ ((w p : List ℕ) (s : List Float) → r .next ≡ toPass (feed (dataOf (frameOf (now (centroids .entry)) (now (order .entry)) config (now (passes .entry))) slots w p s)) (config .cap) (length (now (passes .entry)) / 3 - from) from status tried) ⌝ }
-    ensures { λ r. ⌜ DeskAfter (frameOf (now (centroids .entry)) (now (order .entry)) config (now (passes .entry))) held (r .held) (now (places .exit)) (now (dirs .exit)) ⌝ }
+    ensures { λ r. ⌜ DeskAfter (frameOf (now (centroids .entry)) (now (order .entry)) config (now (passes .entry))) held (r .held) (now (places .exit)) (now (measures .exit)) ⌝ }
 {
     let n = (passes.len() / 3) as u32;
     let cap = config.cap;
@@ -77,7 +77,16 @@ pub fn to_pass(
                 held: desk,
             };
         }
-        let laid = search_feed::lay_pass(centroids, order, config, passes, desk, i, places, dirs);
+        let laid = search_desk::lay_pass(
+            centroids,
+            order,
+            config,
+            passes,
+            desk,
+            i,
+            places,
+            measures,
+        );
         desk = laid;
         match begin_pass(laid.kept, slots, config.patterns) {
             Begin::First(q) => {
@@ -109,11 +118,11 @@ fn after_four(
     p: Position,
     tried: u64,
     places: &mut [u32; 64],
-    dirs: &mut [[f32; 3]; 64],
+    measures: &mut [f32; 2208],
 ) -> Reached
-    requires { ⌜ Asked5 (frameOf (now centroids) (now order) config (now passes)) × AtRead (frameOf (now centroids) (now order) config (now passes)) slots held p (now places) (now dirs) ⌝ }
+    requires { ⌜ Asked5 (frameOf (now centroids) (now order) config (now passes)) × AtRead (frameOf (now centroids) (now order) config (now passes)) slots held p (now places) (now measures) ⌝ }
     ensures { λ r. ⌜ ((w e : List ℕ) (s : List Float) → r .next ≡ afterFour (feed (dataOf (frameOf (now (centroids .entry)) (now (order .entry)) config (now (passes .entry))) slots w e s)) (config .cap) (p .pass) (p .four) tried) ⌝ }
-    ensures { λ r. ⌜ DeskAfter (frameOf (now (centroids .entry)) (now (order .entry)) config (now (passes .entry))) held (r .held) (now (places .exit)) (now (dirs .exit)) ⌝ }
+    ensures { λ r. ⌜ DeskAfter (frameOf (now (centroids .entry)) (now (order .entry)) config (now (passes .entry))) held (r .held) (now (places .exit)) (now (measures .exit)) ⌝ }
 {
     let four = p.four;
     match combinations::next_four(held.kept, four) {
@@ -135,7 +144,7 @@ fn after_four(
             Status::NoMatch,
             tried,
             places,
-            dirs,
+            measures,
         ),
     }
 }
@@ -151,11 +160,11 @@ fn after_key(
     p: Position,
     tried: u64,
     places: &mut [u32; 64],
-    dirs: &mut [[f32; 3]; 64],
+    measures: &mut [f32; 2208],
 ) -> Reached
-    requires { ⌜ Asked5 (frameOf (now centroids) (now order) config (now passes)) × AtRead (frameOf (now centroids) (now order) config (now passes)) slots held p (now places) (now dirs) ⌝ }
+    requires { ⌜ Asked5 (frameOf (now centroids) (now order) config (now passes)) × AtRead (frameOf (now centroids) (now order) config (now passes)) slots held p (now places) (now measures) ⌝ }
     ensures { λ r. ⌜ ((w e : List ℕ) (s : List Float) → r .next ≡ afterKey (feed (dataOf (frameOf (now (centroids .entry)) (now (order .entry)) config (now (passes .entry))) slots w e s)) (config .cap) (p .pass) (p .four) (p .key) tried) ⌝ }
-    ensures { λ r. ⌜ DeskAfter (frameOf (now (centroids .entry)) (now (order .entry)) config (now (passes .entry))) held (r .held) (now (places .exit)) (now (dirs .exit)) ⌝ }
+    ensures { λ r. ⌜ DeskAfter (frameOf (now (centroids .entry)) (now (order .entry)) config (now (passes .entry))) held (r .held) (now (places .exit)) (now (measures .exit)) ⌝ }
 {
     if p.key + 1 < held.keys {
         return Reached {
@@ -173,7 +182,7 @@ fn after_key(
         p,
         tried,
         places,
-        dirs,
+        measures,
     )
 }
 
@@ -189,11 +198,11 @@ pub fn after(
     full: bool,
     tried: u64,
     places: &mut [u32; 64],
-    dirs: &mut [[f32; 3]; 64],
+    measures: &mut [f32; 2208],
 ) -> Reached
-    requires { ⌜ Asked5 (frameOf (now centroids) (now order) config (now passes)) × AtRead (frameOf (now centroids) (now order) config (now passes)) slots held p (now places) (now dirs) ⌝ }
+    requires { ⌜ Asked5 (frameOf (now centroids) (now order) config (now passes)) × AtRead (frameOf (now centroids) (now order) config (now passes)) slots held p (now places) (now measures) ⌝ }
     ensures { λ r. ⌜ ((w e : List ℕ) (s : List Float) → full ≡ filled (feed (dataOf (frameOf (now (centroids .entry)) (now (order .entry)) config (now (passes .entry))) slots w e s)) p → r .next ≡ nextRead (feed (dataOf (frameOf (now (centroids .entry)) (now (order .entry)) config (now (passes .entry))) slots w e s)) (config .cap) p tried) ⌝ }
-    ensures { λ r. ⌜ DeskAfter (frameOf (now (centroids .entry)) (now (order .entry)) config (now (passes .entry))) held (r .held) (now (places .exit)) (now (dirs .exit)) ⌝ }
+    ensures { λ r. ⌜ DeskAfter (frameOf (now (centroids .entry)) (now (order .entry)) config (now (passes .entry))) held (r .held) (now (places .exit)) (now (measures .exit)) ⌝ }
 {
     if full {
         if ((p.probe + 1) as u64) < slots {
@@ -213,6 +222,6 @@ pub fn after(
         p,
         tried,
         places,
-        dirs,
+        measures,
     )
 }

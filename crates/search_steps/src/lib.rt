@@ -5,7 +5,7 @@ mod walk;
 pub use crate::walk::begin;
 pub use crate::walk::lay;
 pub use crate::walk::step;
-use search_feed::Held;
+use search_desk::Held;
 use undivided_run::Next;
 use undivided_run::Walk;
 

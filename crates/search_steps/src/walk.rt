@@ -10,7 +10,7 @@ ghost use Rattle.undivided_run.specs.Step.{look, firstRead};
 ghost use Rattle.search_feed.specs.Data.{frameOf, dataOf};
 ghost use Rattle.search_feed.specs.Image.{keptPlaces};
 ghost use Rattle.search_feed.specs.Feed.{feed};
-ghost use Rattle.search_feed.specs.Desk.{PassDesk, FourDesk, ForPass, ForFour};
+ghost use Rattle.search_desk.specs.Desk.{PassDesk, FourDesk, ForPass, ForFour};
 ghost use Rattle.search_feed.specs.Claims.{Asked5};
 ghost use Rattle.search_steps.specs.Desks.{DeskAfter, AtRead};
 ghost use Rattle.search_steps.specs.Steps.{steppedOf};
@@ -18,7 +18,7 @@ use crate::Reached;
 use crate::Stepped;
 use crate::after::after;
 use crate::after::to_pass;
-use search_feed::Held;
+use search_desk::Held;
 use search_feed::SearchConfig;
 use undivided_run::Next;
 use undivided_run::Phase;
@@ -36,15 +36,24 @@ pub fn lay(
     held: Held,
     p: Position,
     places: &mut [u32; 64],
-    dirs: &mut [[f32; 3]; 64],
+    measures: &mut [f32; 2208],
     hashes: &mut [u64; 1024],
 ) -> Held
-    requires { ⌜ Asked5 (frameOf (now centroids) (now order) config (now passes)) × PassDesk (frameOf (now centroids) (now order) config (now passes)) held (now places) (now dirs) × FourDesk (frameOf (now centroids) (now order) config (now passes)) held (now hashes) × (p .pass < length (now passes) / 3) × Rising (length (keptPlaces (frameOf (now centroids) (now order) config (now passes)) (p .pass))) (p .four) ⌝ }
-    ensures { λ r. ⌜ ForPass (frameOf (now (centroids .entry)) (now (order .entry)) config (now (passes .entry))) (p .pass) r (now (places .exit)) (now (dirs .exit)) × ForFour (frameOf (now (centroids .entry)) (now (order .entry)) config (now (passes .entry))) (p .pass) (p .four) r (now (hashes .exit)) ⌝ }
+    requires { ⌜ Asked5 (frameOf (now centroids) (now order) config (now passes)) × PassDesk (frameOf (now centroids) (now order) config (now passes)) held (now places) (now measures) × FourDesk (frameOf (now centroids) (now order) config (now passes)) held (now hashes) × (p .pass < length (now passes) / 3) × Rising (length (keptPlaces (frameOf (now centroids) (now order) config (now passes)) (p .pass))) (p .four) ⌝ }
+    ensures { λ r. ⌜ ForPass (frameOf (now (centroids .entry)) (now (order .entry)) config (now (passes .entry))) (p .pass) r (now (places .exit)) (now (measures .exit)) × ForFour (frameOf (now (centroids .entry)) (now (order .entry)) config (now (passes .entry))) (p .pass) (p .four) r (now (hashes .exit)) ⌝ }
 {
-    let laid = search_feed::lay_pass(centroids, order, config, passes, held, p.pass, places, dirs);
+    let laid = search_desk::lay_pass(
+        centroids,
+        order,
+        config,
+        passes,
+        held,
+        p.pass,
+        places,
+        measures,
+    );
     let four = p.four;
-    search_feed::lay_four(config, laid, four, &*dirs, hashes)
+    search_desk::lay_four(config, laid, four, measures, hashes)
 }
 
 // What a read leads on to: one more read counted, one more combination if it was its first, and the next read.
@@ -59,11 +68,11 @@ pub fn step(
     full: bool,
     walk: Walk,
     places: &mut [u32; 64],
-    dirs: &mut [[f32; 3]; 64],
+    measures: &mut [f32; 2208],
 ) -> Stepped
-    requires { ⌜ Asked5 (frameOf (now centroids) (now order) config (now passes)) × AtRead (frameOf (now centroids) (now order) config (now passes)) slots held p (now places) (now dirs) × (walk .patterns < 9223372036854775808) × (walk .reads < 9223372036854775808) ⌝ }
+    requires { ⌜ Asked5 (frameOf (now centroids) (now order) config (now passes)) × AtRead (frameOf (now centroids) (now order) config (now passes)) slots held p (now places) (now measures) × (walk .patterns < 9223372036854775808) × (walk .reads < 9223372036854775808) ⌝ }
     ensures { λ r. ⌜ ((w e : List ℕ) (s : List Float) → full ≡ filled (feed (dataOf (frameOf (now (centroids .entry)) (now (order .entry)) config (now (passes .entry))) slots w e s)) p → r .walk ≡ steppedOf (feed (dataOf (frameOf (now (centroids .entry)) (now (order .entry)) config (now (passes .entry))) slots w e s)) (config .cap) walk p) ⌝ }
-    ensures { λ r. ⌜ DeskAfter (frameOf (now (centroids .entry)) (now (order .entry)) config (now (passes .entry))) held (r .held) (now (places .exit)) (now (dirs .exit)) ⌝ }
+    ensures { λ r. ⌜ DeskAfter (frameOf (now (centroids .entry)) (now (order .entry)) config (now (passes .entry))) held (r .held) (now (places .exit)) (now (measures .exit)) ⌝ }
 {
     let n = p.count(walk.patterns);
     let reached = after(
@@ -77,7 +86,7 @@ pub fn step(
         full,
         n,
         places,
-        dirs,
+        measures,
     );
     let next = reached.next;
     let desk = reached.held;
@@ -102,11 +111,11 @@ pub fn begin(
     st: State,
     held: Held,
     places: &mut [u32; 64],
-    dirs: &mut [[f32; 3]; 64],
+    measures: &mut [f32; 2208],
 ) -> Reached
-    requires { ⌜ Asked5 (frameOf (now centroids) (now order) config (now passes)) × PassDesk (frameOf (now centroids) (now order) config (now passes)) held (now places) (now dirs) ⌝ }
+    requires { ⌜ Asked5 (frameOf (now centroids) (now order) config (now passes)) × PassDesk (frameOf (now centroids) (now order) config (now passes)) held (now places) (now measures) ⌝ }
     ensures { λ r. ⌜ ((w e : List ℕ) (s : List Float) → r .next ≡ look (firstRead (feed (dataOf (frameOf (now (centroids .entry)) (now (order .entry)) config (now (passes .entry))) slots w e s)) (config .cap)) (st .phase)) ⌝ }
-    ensures { λ r. ⌜ DeskAfter (frameOf (now (centroids .entry)) (now (order .entry)) config (now (passes .entry))) held (r .held) (now (places .exit)) (now (dirs .exit)) ⌝ }
+    ensures { λ r. ⌜ DeskAfter (frameOf (now (centroids .entry)) (now (order .entry)) config (now (passes .entry))) held (r .held) (now (places .exit)) (now (measures .exit)) ⌝ }
 {
     let phase = st.phase;
     match phase {
@@ -121,7 +130,7 @@ pub fn begin(
             Status::NoMatch,
             0,
             places,
-            dirs,
+            measures,
         ),
         Phase::Ended(s) => Reached {
             next: Next::Ends(s),

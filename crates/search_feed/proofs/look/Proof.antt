@@ -49,8 +49,8 @@ places-at-requires c κs = search needs
 
 look-entry-requires : tie.Need-look-entry-requires
 look-entry-requires c κs =
-    let b = c .before .before .before .before .before .before .before .before .before .before .before .before in
-    (look-inside (b .args .words .now) (b .args .packed .now) _ 0 [] 0 (b .args .held .image) (b .args .config) (b .args .field) (b .args .stars .now) _ (c .before .before .before .before .before .find-in .ensures) (blank Empty) _ (c .before .before .before .entry .given .1), b .pre .6)
+    let b = c .before .before .before .before .before .before .before .before .before .before .before in
+    (look-inside (b .args .words .now) (b .args .packed .now) _ 0 [] 0 (b .args .image) (b .args .config) (b .args .field) (b .args .stars .now) _ (c .before .before .before .before .find-in .ensures) (blank Empty) _ (c .before .before .entry .given .1), b .pre .6)
 
 returns : tie.Need-returns
 returns c =
@@ -64,10 +64,10 @@ returns-2 c =
 
 returns-3 : tie.Need-returns-3
 returns-3 c =
-    let a = c .before .before .before .before .before .before .before .before .before .before .before .before .before .args in
-    let s = c .before .before .before .before .before .before .before .slot-of-probe .ensures .0 in
-    look-at _ _ _ _ _ _ _ _ _ _ _ (c .before .before .before .before .before .before .find-in .ensures ∙ ap (slotIn (a .words .now) (a .packed .now)) s) _ _ (c .before .before .before .before .entry .given .1)
-    (rw (s, c .before .before .places-at .ensures) at (c .look-entry .ensures))
+    let a = c .before .before .before .before .before .before .before .before .before .before .before .before .args in
+    let s = c .before .before .before .before .before .before .slot-of-probe .ensures .0 in
+    look-at _ _ _ _ _ _ _ _ _ _ _ (c .before .before .before .before .before .find-in .ensures ∙ ap (slotIn (a .words .now) (a .packed .now)) s) _ _ (c .before .before .before .entry .given .1)
+    (rw (s, c .before .places-at .ensures) at (c .look-entry .ensures))
 
 pub look-spec : {M : Type 1} → statement M
 look-spec =

@@ -6,7 +6,7 @@ use Rattle.undivided_run.proofs.Eights.{rises-true}
 use Rattle.passes.proofs.Laws.{passes-fitting}
 use Rattle.search_feed.specs.Data.{frameOf}
 use Rattle.search_questions.proofs.Existing.{no-pattern, no-pass, no-rise, no-key, by-probe}
-use Rattle.search_feed.proofs.Laid.{laid-pass, laid-four, same-pass, four-below, four-shown, four-directions, four-keys}
+use Rattle.search_desk.proofs.Laid.{laid-pass, laid-four, same-pass, four-shown, four-directions, four-keys}
 use Rattle.search_questions.proofs.exists_here.Statement.{statement}
 use Rattle.search_questions.proofs.exists_here.Tie as tie
 
@@ -46,8 +46,7 @@ lay-four-requires c κs =
     let F = frameOf (b .args .centroids .now) (b .args .order .now) (b .args .config) (b .args .passes .now) in
     let l = c .before .before .before .before .before .lay-pass .ensures .0 in
     let r = rises-true _ (b .args .p .four) (sym (c .before .before .before .rises-below .ensures) ∙ not-false _ (c .before .before .if3 .left)) in
-    let x = four-below F _ _ _ _ l (b .pre .0) (b .args .p .four) r in
-    (b .pre .0 .four, x .0, x .1, x .2, x .3, four-directions F _ _ _ _ l (b .pre .0) (b .args .p .four) r, l .dirs-long, b .pre .2 .hashes-long)
+    (b .pre .0 .four, r, l .held .angles, four-directions F _ _ _ _ l (b .pre .0) (b .args .p .four) r, l .measures-long, b .pre .2 .hashes-long)
 
 returns-4 : tie.Need-returns-4
 returns-4 c =
@@ -60,7 +59,7 @@ returns-4 c =
     let o = c .before .before .before .lay-four .ensures .0 F refl (l .1 _ (b .pre .2)) (four-shown F _ _ _ _ (l .0) (b .pre .0) q r) in
     let m = c .before .before .before .lay-four .ensures .1 in (
       λ w e s. no-key F (b .args .slots) (b .args .p) w e s (c .before .before .before .before .before .before .before .before .before .before .before .before .before .before .if1 .left) (c .before .before .before .before .before .before .before .before .before .before .before .before .if2 .left) _ (l .0 .held .count) t _ (four-keys F _ _ _ _ (l .0) (b .pre .0) q r _ _ o) (c .if4 .taken),
-      (laid-pass F _ _ _ _ (same-pass F _ _ _ _ (l .0) _ (m .0) (m .1) (m .2)), laid-four F _ q _ _ o (m .1)),
+      (laid-pass F _ _ _ _ (same-pass F _ _ _ _ (l .0) _ _ (m .0) (m .1) (m .2) (m .4)), laid-four F _ q _ _ o (m .1)),
     )
 
 cast-t23 : tie.Need-cast-t23
@@ -77,7 +76,7 @@ returns-5 c =
     let o = c .before .before .before .before .lay-four .ensures .0 F refl (l .1 _ (b .pre .2)) (four-shown F _ _ _ _ (l .0) (b .pre .0) q r) in
     let m = c .before .before .before .before .lay-four .ensures .1 in (
       λ w e s. by-probe F (b .args .slots) (b .args .p) w e s (c .before .before .before .before .before .before .before .before .before .before .before .before .before .before .before .if1 .left) (c .before .before .before .before .before .before .before .before .before .before .before .before .before .if2 .left) _ (l .0 .held .count) t _ (four-keys F _ _ _ _ (l .0) (b .pre .0) q r _ _ o) (c .before .if4 .left),
-      (laid-pass F _ _ _ _ (same-pass F _ _ _ _ (l .0) _ (m .0) (m .1) (m .2)), laid-four F _ q _ _ o (m .1)),
+      (laid-pass F _ _ _ _ (same-pass F _ _ _ _ (l .0) _ _ (m .0) (m .1) (m .2) (m .4)), laid-four F _ q _ _ o (m .1)),
     )
 
 pub exists-here-spec : {M : Type 1} → statement M

@@ -4,7 +4,7 @@ use borrow.Author.Needs.{needs}
 use Rattle.search_feed.specs.Data.{frameOf, dataOf}
 use Rattle.star_slice.proofs.StarSlice.{fit-few}
 use Rattle.search_questions.proofs.Asking.{seven-asked, seven-stars}
-use Rattle.search_feed.proofs.Laid.{empty-pass, empty-four}
+use Rattle.search_desk.proofs.Laid.{empty-pass, empty-four}
 use Rattle.pattern_search.proofs.Calling.{call-eight, call-zero, call-run, ready}
 use Rattle.pattern_search.proofs.call.go.Statement.{statement}
 use Rattle.pattern_search.proofs.call.go.Tie as tie
@@ -12,8 +12,8 @@ use Rattle.pattern_search.proofs.call.go.Tie as tie
 no-places-requires : tie.Need-no-places-requires
 no-places-requires c κs = search needs
 
-no-dirs-requires : tie.Need-no-dirs-requires
-no-dirs-requires c κs = search needs
+no-measures-requires : tie.Need-no-measures-requires
+no-measures-requires c κs = search needs
 
 no-hashes-requires : tie.Need-no-hashes-requires
 no-hashes-requires c κs = search needs
@@ -25,7 +25,7 @@ eighth-requires : tie.Need-eighth-requires
 eighth-requires c κs =
     let b = c .before .before .before .before .before .before .before .before .before .before .before .before .before in
     let D = dataOf (frameOf (b .args .centroids .now) (b .args .order .now) (b .args .config) (b .args .passes .now)) (b .args .slots) (b .args .words .now) (b .args .packed .now) (b .args .stars .now) in
-    (seven-asked (D .frame) (b .args .slots) (D .words) (D .stars) (b .pre), empty-pass _ _ _ _ (c .before .before .before .nothing-held .ensures) (c .before .before .before .before .before .before .no-places .ensures) (c .before .before .before .before .before .no-dirs .ensures), empty-four _ _ _ (c .before .before .before .nothing-held .ensures) (c .before .before .before .before .no-hashes .ensures))
+    (seven-asked (D .frame) (b .args .slots) (D .words) (D .stars) (b .pre), empty-pass _ _ _ _ (c .before .before .before .nothing-held .ensures) (c .before .before .before .before .before .before .no-places .ensures) (c .before .before .before .before .before .no-measures .ensures), empty-four _ _ _ (c .before .before .before .nothing-held .ensures) (c .before .before .before .before .no-hashes .ensures))
 
 plain-requires : tie.Need-plain-requires
 plain-requires c κs = search needs
@@ -68,7 +68,7 @@ go-spec =
     tie.close
     (tie.spec
     no-places-requires
-    no-dirs-requires
+    no-measures-requires
     no-hashes-requires
     nothing-held-requires
     eighth-requires

@@ -13,15 +13,15 @@ use Rattle.pattern_search.proofs.call.run.Statement.{statement}
 use Rattle.pattern_search.proofs.call.run.Tie as tie
 
 abbrev Inv-loop : tie.InvT-loop
-Inv-loop centroids order config passes slots words packed stars st allowance places₀ dirs₀ hashes₀ w₀ h₀ a₀ known₀ places dirs hashes w h a known =
+Inv-loop centroids order config passes slots words packed stars st allowance places₀ measures₀ hashes₀ w₀ h₀ a₀ known₀ places measures hashes w h a known =
     let D = dataOf (frameOf centroids order config passes) slots words packed stars in
     (goesOn (feed D) (config .cap) st a w ≡ goesOn (feed D) (config .cap) st allowance w₀)
-    × Ready D w h places dirs hashes
+    × Ready D w h places measures hashes
     × (a ≤ allowance)
     × SoundBelow stars (known .sound)
 
 abbrev μ-loop : tie.MeasureT-loop
-μ-loop centroids order config passes slots words packed stars st allowance places₀ dirs₀ hashes₀ w₀ h₀ a₀ known₀ places dirs hashes w h a known =
+μ-loop centroids order config passes slots words packed stars st allowance places₀ measures₀ hashes₀ w₀ h₀ a₀ known₀ places measures hashes w h a known =
     a
 
 loop-holds : tie.Need-loop-holds Inv-loop μ-loop

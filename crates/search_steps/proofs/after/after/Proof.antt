@@ -1,6 +1,6 @@
 use mathlib.Core.Logic.{⊎-elim}
 use mathlib.Core.Path.{sym, ap, _∙_}
-use Rattle.search_feed.proofs.Laid.{laid-pass}
+use Rattle.search_desk.proofs.Laid.{laid-pass}
 use Rattle.search_steps.proofs.Desks.{kept-same}
 use Rattle.search_steps.proofs.Stepping.{probe-follows, probes-end, probe-stops}
 use Rattle.undivided_run.specs.declared.Next.the-variants.{Goes}

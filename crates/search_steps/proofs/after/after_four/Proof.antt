@@ -1,5 +1,5 @@
 use mathlib.Core.Path.{sym, _∙_}
-use Rattle.search_feed.proofs.Laid.{laid-pass, next-pass-fits, next-pass-inside}
+use Rattle.search_desk.proofs.Laid.{laid-pass, next-pass-fits, next-pass-inside}
 use Rattle.search_steps.proofs.Desks.{kept-same}
 use Rattle.search_steps.proofs.Stepping.{four-follows, four-ends}
 use borrow.Author.Needs.{needs}

@@ -1,5 +1,5 @@
 use mathlib.Core.Path.{sym, ap, _∙_}
-use Rattle.search_feed.proofs.Laid.{laid-pass}
+use Rattle.search_desk.proofs.Laid.{laid-pass}
 use Rattle.search_steps.proofs.Desks.{kept-same}
 use Rattle.search_steps.proofs.Stepping.{key-follows, key-ends}
 use Rattle.undivided_run.specs.declared.Next.the-variants.{Goes}

@@ -12,20 +12,20 @@ use Rattle.search_feed.specs.Data.{frameOf, dataOf}
 use Rattle.search_feed.specs.Feed.{feed}
 use Rattle.search_steps.specs.Desks.{DeskAfter}
 use Rattle.search_steps.proofs.Beginning.{passes-end, passes-timeout, passes-first, passes-past}
-use Rattle.search_feed.proofs.Laid.{kept-64}
+use Rattle.search_desk.proofs.Laid.{kept-64}
 use Rattle.search_steps.proofs.Desks.{kept-same, kept-laid}
 use Rattle.search_steps.proofs.after.to_pass.Statement.{statement}
 use Rattle.search_steps.proofs.after.to_pass.Tie as tie
 
 abbrev Inv-loop : tie.InvT-loop
-Inv-loop centroids order config passes slots from tried places₀ dirs₀ n cap desk₀ i₀ s₀ places dirs desk i s =
+Inv-loop centroids order config passes slots from tried places₀ measures₀ n cap desk₀ i₀ s₀ places measures desk i s =
     (i ≤ length passes / 3)
     × (n ≡ length passes / 3)
     × ((w p : List ℕ) (x : List Float) → toPass (feed (dataOf (frameOf centroids order config passes) slots w p x)) (config .cap) (length passes / 3 - i) i s tried ≡ toPass (feed (dataOf (frameOf centroids order config passes) slots w p x)) (config .cap) (length passes / 3 - from) from s₀ tried)
-    × DeskAfter (frameOf centroids order config passes) desk₀ desk places dirs
+    × DeskAfter (frameOf centroids order config passes) desk₀ desk places measures
 
 abbrev μ-loop : tie.MeasureT-loop
-μ-loop centroids order config passes slots from tried places₀ dirs₀ n cap desk₀ i₀ s₀ places dirs desk i s =
+μ-loop centroids order config passes slots from tried places₀ measures₀ n cap desk₀ i₀ s₀ places measures desk i s =
     n - i
 
 cast-n : tie.Need-cast-n Inv-loop μ-loop

@@ -2,7 +2,7 @@ use mathlib.Core.Path.{refl, sym, subst}
 use borrow.Author.Needs.{needs}
 use Rattle.combinations.specs.Fours.{Rising}
 use Rattle.search_feed.specs.Data.{frameOf}
-use Rattle.search_feed.proofs.Laid.{same-pass, four-below, four-shown, four-directions, four-at}
+use Rattle.search_desk.proofs.Laid.{same-pass, four-shown, four-directions, four-at}
 use Rattle.search_steps.proofs.walk.lay.Statement.{statement}
 use Rattle.search_steps.proofs.walk.lay.Tie as tie
 
@@ -16,8 +16,7 @@ lay-four-requires c κs =
     let l = c .before .before .before .lay-pass .ensures .0 in
     let q = b .args .p .four in
     let r = subst (λ k. Rising k q) (sym (l .held .count)) (b .pre .4) in
-    let x = four-below F _ _ _ _ l (b .pre .0) q r in
-    (b .pre .0 .four, x .0, x .1, x .2, x .3, four-directions F _ _ _ _ l (b .pre .0) q r, l .dirs-long, b .pre .2 .hashes-long)
+    (b .pre .0 .four, r, l .held .angles, four-directions F _ _ _ _ l (b .pre .0) q r, l .measures-long, b .pre .2 .hashes-long)
 
 returns : tie.Need-returns
 returns c =
@@ -28,7 +27,7 @@ returns c =
     let r = subst (λ k. Rising k q) (sym (l .0 .held .count)) (b .pre .4) in
     let o = c .lay-four .ensures .0 F refl (l .1 _ (b .pre .2)) (four-shown F _ _ _ _ (l .0) (b .pre .0) q r) in
     let m = c .lay-four .ensures .1 in
-    (same-pass F _ _ _ _ (l .0) _ (m .0) (m .1) (m .2), four-at F _ _ q _ _ (l .0 .is) o)
+    (same-pass F _ _ _ _ (l .0) _ _ (m .0) (m .1) (m .2) (m .4), four-at F _ _ q _ _ (l .0 .is) o)
 
 pub lay-spec : {M : Type 1} → statement M
 lay-spec = tie.close (tie.spec lay-pass-requires lay-four-requires returns)

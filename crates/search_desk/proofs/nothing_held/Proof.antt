@@ -1,7 +1,7 @@
 use borrow.Author.Needs.{needs}
-use Rattle.search_feed.specs.Desk.{emptyDesk}
-use Rattle.search_feed.proofs.nothing_held.Statement.{statement}
-use Rattle.search_feed.proofs.nothing_held.Tie as tie
+use Rattle.search_desk.specs.Desk.{emptyDesk}
+use Rattle.search_desk.proofs.nothing_held.Statement.{statement}
+use Rattle.search_desk.proofs.nothing_held.Tie as tie
 
 no-image-requires : tie.Need-no-image-requires
 no-image-requires c κs = search needs

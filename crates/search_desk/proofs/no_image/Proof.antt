@@ -1,8 +1,8 @@
 use mathlib.Core.Path.{refl}
 use lib.Ieee.{ofBits}
-use Rattle.search_feed.specs.Desk.{noImage}
-use Rattle.search_feed.proofs.no_image.Statement.{statement}
-use Rattle.search_feed.proofs.no_image.Tie as tie
+use Rattle.search_desk.specs.Desk.{noImage}
+use Rattle.search_desk.proofs.no_image.Statement.{statement}
+use Rattle.search_desk.proofs.no_image.Tie as tie
 
 returns : tie.Need-returns
 unfolding noImage ofBits

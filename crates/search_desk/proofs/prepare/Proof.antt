@@ -1,13 +1,11 @@
 use native.Mathlib.Omega.{arith}
-use Rattle.float_order.specs.Ratios.{Ratios}
-use Rattle.search_feed.specs.Image.{imageOf}
 use Rattle.search_feed.proofs.Limits.{fitting, tolerance-of}
-use Rattle.search_feed.proofs.Spots.{image-ratios-of}
 use Rattle.pattern_keys.proofs.Ranges.{keys-count}
-use Rattle.search_feed.proofs.Desks.{prepared}
+use Rattle.search_desk.specs.Desk.{imageFrom}
+use Rattle.search_desk.proofs.Desks.{prepared}
 use borrow.Author.Needs.{needs}
-use Rattle.search_feed.proofs.prepare.Statement.{statement}
-use Rattle.search_feed.proofs.prepare.Tie as tie
+use Rattle.search_desk.proofs.prepare.Statement.{statement}
+use Rattle.search_desk.proofs.prepare.Tie as tie
 
 image-of-requires : tie.Need-image-of-requires
 image-of-requires c κs = search needs
@@ -18,17 +16,14 @@ max-error-requires c κs = fitting (c .before .before .args .config) (c .before 
 key-hashes-requires : tie.Need-key-hashes-requires
 key-hashes-requires c κs =
     let b = c .before .before .before .before in
-    let m = c .before .before .before .image-of .ensures in
-    let r : Ratios (imageOf (b .args .v) .ratios) = image-ratios-of (b .args .v) (b .pre .1) in
     let t = tolerance-of (b .args .config) (b .pre .0) in
-    (rw m r, rw (c .before .max-error .ensures) t, b .pre .2)
+    (rw (c .before .before .before .image-of .ensures) (b .pre .1), rw (c .before .max-error .ensures) t, b .pre .2)
 
 cast-t10 : tie.Need-cast-t10
 cast-t10 c =
     let b = c .before .before .before .before .before in
     let m = c .before .before .before .before .image-of .ensures in
-    let r : Ratios (imageOf (b .args .v) .ratios) = image-ratios-of (b .args .v) (b .pre .1) in
-    let k = keys-count (imageOf (b .args .v) .ratios) _ (b .args .config .bins) r (tolerance-of (b .args .config) (b .pre .0)) .1 in
+    let k = keys-count (imageFrom (b .args .angles) .ratios) _ (b .args .config .bins) (b .pre .1) (tolerance-of (b .args .config) (b .pre .0)) .1 in
     let h = rw (m, c .before .before .max-error .ensures) at (c .key-hashes .ensures .count) in
     record { fits = omega (arith, h, k) }
 

@@ -2,16 +2,19 @@
 use mathlib.Core.Path.{_≡_}
 use Prim.Native.Nat.{ℕ, _/_, _≤_, _<_}
 use mathlib.Core.Bool.{Bool, true, false}
-use mathlib.Core.List.{List, [], _∷_, map}
+use mathlib.Core.List.{List, [], _∷_}
 use lib.IntN.{pos}
 use lib.ListN.{length, getD, take}
-use lib.Ieee.{Float, fin}
+use lib.Ieee.{Float, nan, fin, lt}
 use Rattle.combinations.specs.declared.Four.{Four}
 use Rattle.candidates.specs.declared.Image.{Image}
 use Rattle.search_feed.specs.Data.{Frame}
-use Rattle.search_feed.specs.Image.{keysIn, hashIn, spotOf, keptPlaces, imageOf, imageAt}
+use Rattle.pattern.specs.Sort.{sorted}
+use Rattle.pattern.specs.Edges.{ratiosOf}
+use Rattle.kept_angles.specs.Measures.{directionAt, AnglesHeld}
+use Rattle.search_feed.specs.Image.{keysIn, hashIn, spotOf, keptPlaces, placeAt, imageAt}
 use Rattle.search_feed.specs.declared.SearchConfig.{SearchConfig}
-use Rattle.search_feed.specs.declared.Held.{Held}
+use Rattle.search_desk.specs.declared.Held.{Held}
 
 -- the desk that nothing lies on: all zero
 unfoldable pub noImage : Image
@@ -29,11 +32,12 @@ emptyDesk =
       image = noImage;
     }
 
--- the arrays hold the kept places of pass i, n of them, and their directions
-pub record PassHeld (F : Frame) (i n : ℕ) (places : List ℕ) (dirs : List (List Float)) : Type 0 where
+-- the arrays hold the kept places of pass i, n of them, their directions, and the angle of each two, or that it is not worked out
+pub record PassHeld (F : Frame) (i n : ℕ) (places : List ℕ) (measures : List Float) : Type 0 where
   pub count : n ≡ length (keptPlaces F i)
   pub places-are : take n places ≡ keptPlaces F i
-  pub dirs-are : take n dirs ≡ map (spotOf F i) (keptPlaces F i)
+  pub directions-are : (x : ℕ) → x < n → directionAt measures x ≡ spotOf F i (placeAt F i x)
+  pub angles : AnglesHeld n measures
 
 -- the array holds the hashes of the keys of combination q of pass i, n of them; beside it stands what the frame shows of it
 pub record FourHeld (F : Frame) (i : ℕ) (q : Four) (n : ℕ) (image : Image) (hashes : List ℕ) : Type 0 where
@@ -42,19 +46,19 @@ pub record FourHeld (F : Frame) (i : ℕ) (q : Four) (n : ℕ) (image : Image) (
   pub hash : (k : ℕ) → k < n → getD hashes k 0 ≡ hashIn (F .config) (imageAt F i q) k
 
 -- what a desk says it holds, it holds
-abbrev pub PassBy : Bool → Frame → Held → List ℕ → List (List Float) → Type 0
-PassBy true F h places dirs = (h .pass < length (F .passes) / 3) × PassHeld F (h .pass) (h .kept) places dirs
-PassBy false F h places dirs = Unit {0}
+abbrev pub PassBy : Bool → Frame → Held → List ℕ → List Float → Type 0
+PassBy true F h places measures = (h .pass < length (F .passes) / 3) × PassHeld F (h .pass) (h .kept) places measures
+PassBy false F h places measures = Unit {0}
 
 abbrev pub FourBy : Bool → Frame → Held → List ℕ → Type 0
 FourBy true F h hashes = FourHeld F (h .pass) (h .four) (h .keys) (h .image) hashes
 FourBy false F h hashes = Unit {0}
 
 -- the arrays of a pass
-pub record PassDesk (F : Frame) (h : Held) (places : List ℕ) (dirs : List (List Float)) : Type 0 where
-  pub pass : PassBy (h .passed) F h places dirs
+pub record PassDesk (F : Frame) (h : Held) (places : List ℕ) (measures : List Float) : Type 0 where
+  pub pass : PassBy (h .passed) F h places measures
   pub places-long : length places ≡ 64
-  pub dirs-long : length dirs ≡ 64
+  pub measures-long : length measures ≡ 2208
 
 -- the array of a combination
 pub record FourDesk (F : Frame) (h : Held) (hashes : List ℕ) : Type 0 where
@@ -62,13 +66,13 @@ pub record FourDesk (F : Frame) (h : Held) (hashes : List ℕ) : Type 0 where
   pub hashes-long : length hashes ≡ 1024
 
 -- the desk is laid for pass i
-pub record ForPass (F : Frame) (i : ℕ) (h : Held) (places : List ℕ) (dirs : List (List Float)) : Type 0 where
+pub record ForPass (F : Frame) (i : ℕ) (h : Held) (places : List ℕ) (measures : List Float) : Type 0 where
   pub yes : h .passed ≡ true
   pub is : h .pass ≡ i
   pub inside : i < length (F .passes) / 3
-  pub held : PassHeld F i (h .kept) places dirs
+  pub held : PassHeld F i (h .kept) places measures
   pub places-long : length places ≡ 64
-  pub dirs-long : length dirs ≡ 64
+  pub measures-long : length measures ≡ 2208
 
 -- the desk is laid for combination q of pass i
 pub record ForFour (F : Frame) (i : ℕ) (q : Four) (h : Held) (hashes : List ℕ) : Type 0 where
@@ -77,9 +81,13 @@ pub record ForFour (F : Frame) (i : ℕ) (q : Four) (h : Held) (hashes : List �
   pub held : FourHeld F i q (h .keys) (h .image) hashes
   pub hashes-long : length hashes ≡ 1024
 
--- what `prepare` makes of four directions: what they show, and the hashes of their keys, n of them
-pub record Prepared (c : SearchConfig) (v : List (List Float)) (n : ℕ) (image : Image) (hashes : List ℕ) : Type 0 where
-  pub image-is : image ≡ imageOf v
-  pub count : n ≡ length (keysIn c (imageOf v))
-  pub hash : (k : ℕ) → k < n → getD hashes k 0 ≡ hashIn c (imageOf v) k
+-- what six angles show: the largest and the five ratios, as `imageOf` has it of the angles of four directions
+unfoldable pub imageFrom : List Float → Image
+imageFrom a = record { edge = getD (sorted lt a) 5 nan; ratios = ratiosOf (sorted lt a) }
+
+-- what `prepare` makes of what the frame shows: that, and the hashes of its keys, n of them
+pub record Prepared (c : SearchConfig) (shown : Image) (n : ℕ) (image : Image) (hashes : List ℕ) : Type 0 where
+  pub image-is : image ≡ shown
+  pub count : n ≡ length (keysIn c shown)
+  pub hash : (k : ℕ) → k < n → getD hashes k 0 ≡ hashIn c shown k
   pub hashes-long : length hashes ≡ 1024

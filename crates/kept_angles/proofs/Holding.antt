@@ -1,0 +1,155 @@
+-- Directions and angles in the array, as it is laid, cleared and asked. Assumes nothing.
+use mathlib.Core.Path.{_≡_, refl, sym, ap, ap₂, _∙_, subst}
+use Prim.Native.Nat.{ℕ, zero, suc, _+_, _*_, _≤_, _<_}
+use native.Mathlib.Omega.{arith}
+use mathlib.Core.Bool.{Bool, true, false}
+use mathlib.Core.List.{List, [], _∷_}
+use mathlib.Core.Logic.{_⊎_, inl, inr}
+use lib.IntN.{pos}
+use lib.ListN.{length, getD, set, length-set}
+use lib.Seq.{getD-set-same, getD-set-other}
+use lib.Ieee.{Float, nan, fin, lt}
+use Rattle.float_order.proofs.Order.{lt-or-le}
+use Rattle.pattern.specs.Edges.{angle}
+use Rattle.pattern.proofs.Same.{same-three}
+use Rattle.kept_angles.specs.Measures.{rowAt, threeOf, directionAt, unset, angleIn, AnglesHeld, Still}
+use Rattle.kept_angles.proofs.Places.{row-after, place-inside, same-place}
+
+-- a store behind a direction leaves it
+pub store-behind : (m : List Float) (s k : ℕ) (x : Float) → 3 * k + 2 < s → directionAt (set m s x) k ≡ directionAt m k
+unfolding directionAt
+store-behind m s k x l =
+    same-three (getD-set-other m s (3 * k) x nan (λ e. omega arith)) (getD-set-other m s (3 * k + 1) x nan (λ e. omega arith)) (getD-set-other m s (3 * k + 2) x nan (λ e. omega arith))
+
+same-or-not : (x y : ℕ) → (x ≡ y) ⊎ (x ≡ y → ⊥)
+same-or-not x y = elim (lt-or-le x y) [
+  | inl p ↦ inr (λ e. omega arith)
+  | inr p ↦ elim (lt-or-le y x) [ inl q ↦ inr (λ e. omega arith) | inr q ↦ inl (omega arith) ]
+]
+
+-- ---- asked
+unset-below : (x : Float) → x ≡ unset → lt x (fin false 0 (pos 0)) ≡ true
+unfolding lt
+unset-below x e = rw e
+
+-- an angle that is not below 0 is worked out
+pub known-right : (n : ℕ) (m : List Float) (i j : ℕ) → AnglesHeld n m → i < j → j < n → lt (angleIn m i j) (fin false 0 (pos 0)) ≡ false → angleIn m i j ≡ angle (directionAt m i) (directionAt m j)
+known-right n m i j h l p f = elim (h .each i j l p) [
+  | inl e ↦ absurd (let z : _≡_ {A = Bool} true false = sym (unset-below (angleIn m i j) e) ∙ f in let y : _≡_ {A = ℕ} 0 1 = cc in omega arith)
+  | inr e ↦ e
+]
+
+pub still-same : (m : List Float) → length m ≡ 2208 → Still m m
+still-same m l = record { directions = λ k p. refl; held = λ n h. h; long = l }
+
+pub still-on : (m m' m'' : List Float) → Still m m' → Still m' m'' → Still m m''
+still-on m m' m'' s t = record { directions = λ k p. t .directions k p ∙ s .directions k p; held = λ n h. t .held n (s .held n h); long = t .long }
+
+-- the angle of two directions that stayed
+pub still-angle : (m m' : List Float) (i j : ℕ) → Still m m' → i < 64 → j < 64 → angle (directionAt m' i) (directionAt m' j) ≡ angle (directionAt m i) (directionAt m j)
+still-angle m m' i j s l p = ap₂ angle (s .directions i l) (s .directions j p)
+
+-- an angle stored at its place
+module _ (m : List Float) (i j : ℕ) (w : Float) (l : i < j) (p : j < 64) (long : length m ≡ 2208) (right : w ≡ angle (directionAt m i) (directionAt m j)) where
+  abbrev kept : List Float
+  kept = set m (rowAt j + i) w
+
+  stays : (k : ℕ) → k < 64 → directionAt kept k ≡ directionAt m k
+  stays k q = store-behind m (rowAt j + i) k w (omega arith)
+
+  angle-stays : (a b : ℕ) → a < 64 → b < 64 → angle (directionAt kept a) (directionAt kept b) ≡ angle (directionAt m a) (directionAt m b)
+  angle-stays a b q r = ap₂ angle (stays a q) (stays b r)
+
+  pub still-stored : Still m kept
+  still-stored =
+      record {
+        directions = stays;
+        held = λ n h. record {
+          few = h .few;
+          each = λ a b q r. elim (same-or-not (rowAt b + a) (rowAt j + i)) [
+            | inl e ↦
+                let x = same-place a b i j q l e in
+                inr (ap (λ z. getD kept z nan) e ∙ getD-set-same m (rowAt j + i) w nan (omega (arith, place-inside i j l p, long)) ∙ right ∙ ap₂ (λ y z. angle (directionAt m y) (directionAt m z)) (sym (x .1)) (sym (x .0)) ∙ sym (angle-stays a b (omega (arith, h .few)) (omega (arith, h .few))))
+            | inr e ↦
+                let o = getD-set-other m (rowAt j + i) (rowAt b + a) w nan e in
+                elim (h .each a b q r) [
+                  | inl u ↦ inl (o ∙ u)
+                  | inr u ↦ inr (o ∙ u ∙ sym (angle-stays a b (omega (arith, h .few)) (omega (arith, h .few))))
+                ]
+          ];
+        };
+        long = length-set m (rowAt j + i) w ∙ long;
+      }
+
+-- ---- laid
+-- the first k directions are laid
+pub record Put (dirs : List (List Float)) (k : ℕ) (m : List Float) : Type 0 where
+  pub each : (x : ℕ) → x < k → directionAt m x ≡ threeOf (getD dirs x [])
+  pub long : length m ≡ 2208
+
+pub put-none : (dirs : List (List Float)) (m : List Float) → length m ≡ 2208 → Put dirs 0 m
+put-none dirs m l = record { each = λ x p. absurd (omega arith); long = l }
+
+module _ (dirs : List (List Float)) (k : ℕ) (m : List Float) (v : List Float) (few : k < 64) (is : v ≡ getD dirs k []) (s : Put dirs k m) where
+  abbrev first : List Float
+  first = set m (3 * k) (getD v 0 nan)
+
+  abbrev second : List Float
+  second = set first (3 * k + 1) (getD v 1 nan)
+
+  abbrev third : List Float
+  third = set second (3 * k + 2) (getD v 2 nan)
+
+  first-long : length first ≡ 2208
+  first-long = length-set m (3 * k) (getD v 0 nan) ∙ s .long
+
+  second-long : length second ≡ 2208
+  second-long = length-set first (3 * k + 1) (getD v 1 nan) ∙ first-long
+
+  before : (x : ℕ) → x < k → directionAt third x ≡ directionAt m x
+  before x l =
+      store-behind second (3 * k + 2) x (getD v 2 nan) (omega arith)
+      ∙ store-behind first (3 * k + 1) x (getD v 1 nan) (omega arith)
+      ∙ store-behind m (3 * k) x (getD v 0 nan) (omega arith)
+
+  here : directionAt third k ≡ threeOf (getD dirs k [])
+  unfolding directionAt
+  here =
+      same-three
+      (getD-set-other second (3 * k + 2) (3 * k) (getD v 2 nan) nan (λ e. omega arith) ∙ getD-set-other first (3 * k + 1) (3 * k) (getD v 1 nan) nan (λ e. omega arith) ∙ getD-set-same m (3 * k) (getD v 0 nan) nan (omega (arith, s .long)) ∙ ap (λ z. getD z 0 nan) is)
+      (getD-set-other second (3 * k + 2) (3 * k + 1) (getD v 2 nan) nan (λ e. omega arith) ∙ getD-set-same first (3 * k + 1) (getD v 1 nan) nan (omega (arith, first-long)) ∙ ap (λ z. getD z 1 nan) is)
+      (getD-set-same second (3 * k + 2) (getD v 2 nan) nan (omega (arith, second-long)) ∙ ap (λ z. getD z 2 nan) is)
+
+  pub put-more : Put dirs (k + 1) third
+  put-more =
+      record {
+        each = λ x l. elim (lt-or-le x k) [
+          | inl p ↦ before x p ∙ s .each x p
+          | inr p ↦ let e : x ≡ k = omega arith in subst (λ z. directionAt third z ≡ threeOf (getD dirs z [])) (sym e) here
+        ];
+        long = length-set second (3 * k + 2) (getD v 2 nan) ∙ second-long;
+      }
+
+-- ---- cleared
+-- from the first angle up to place s none is worked out; the directions are as they were
+pub record Forgot (m₀ : List Float) (s : ℕ) (m : List Float) : Type 0 where
+  pub each : (x : ℕ) → 192 ≤ x → x < s → getD m x nan ≡ unset
+  pub directions : (k : ℕ) → k < 64 → directionAt m k ≡ directionAt m₀ k
+  pub long : length m ≡ 2208
+
+pub forgot-none : (m : List Float) → length m ≡ 2208 → Forgot m 192 m
+forgot-none m l = record { each = λ x p q. absurd (omega arith); directions = λ k p. refl; long = l }
+
+pub forgot-more : (m₀ : List Float) (s : ℕ) (m : List Float) → 192 ≤ s → s < 2208 → Forgot m₀ s m → Forgot m₀ (s + 1) (set m s unset)
+forgot-more m₀ s m l p f =
+    record {
+      each = λ x a b. elim (lt-or-le x s) [
+        | inl c ↦ getD-set-other m s x unset nan (λ e. omega arith) ∙ f .each x a c
+        | inr c ↦ let e : x ≡ s = omega arith in subst (λ z. getD (set m s unset) z nan ≡ unset) (sym e) (getD-set-same m s unset nan (omega (arith, f .long)))
+      ];
+      directions = λ k q. store-behind m s k unset (omega arith) ∙ f .directions k q;
+      long = length-set m s unset ∙ f .long;
+    }
+
+pub forgot-held : (m₀ : List Float) (s n : ℕ) (m : List Float) → n ≤ 64 → rowAt n ≤ s → Forgot m₀ s m → AnglesHeld n m
+forgot-held m₀ s n m l p f = record { few = l; each = λ i j a b. inl (f .each (rowAt j + i) (omega arith) (let r = row-after j n b in omega (arith, r))) }

@@ -1,0 +1,57 @@
+-- The array of directions and angles: what stands where. Definitions only.
+use mathlib.Core.Path.{_≡_}
+use Prim.Native.Nat.{ℕ, zero, suc, _+_, _*_, _≤_, _<_}
+use mathlib.Core.Bool.{true}
+use mathlib.Core.List.{List, [], _∷_}
+use mathlib.Core.Logic.{_⊎_}
+use lib.IntN.{pos}
+use lib.ListN.{length, getD}
+use lib.Ieee.{Float, nan, fin}
+use Rattle.combinations.specs.declared.Four.{Four}
+use Rattle.pattern.specs.Edges.{angle}
+
+-- how many pairs the first j positions have
+unfoldable pub pairs : ℕ → ℕ
+pairs zero = 0
+pairs (suc j) = pairs j + j
+
+-- where the angles of position j with those before it begin: after the 64 directions and the pairs before
+abbrev pub rowAt : ℕ → ℕ
+rowAt j = 192 + pairs j
+
+-- three components
+abbrev pub threeOf : List Float → List Float
+threeOf v = getD v 0 nan ∷ getD v 1 nan ∷ getD v 2 nan ∷ []
+
+-- the direction at position k
+unfoldable pub directionAt : List Float → ℕ → List Float
+directionAt m k = getD m (3 * k) nan ∷ getD m (3 * k + 1) nan ∷ getD m (3 * k + 2) nan ∷ []
+
+-- what stands for an angle that is not worked out: -1
+abbrev pub unset : Float
+unset = fin true 1 (pos 0)
+
+-- what stands at the place of the angle of positions i and j
+abbrev pub angleIn : List Float → ℕ → ℕ → Float
+angleIn m i j = getD m (rowAt j + i) nan
+
+-- each angle of the first n positions is unset or that of its two directions
+pub record AnglesHeld (n : ℕ) (m : List Float) : Type 0 where
+  pub few : n ≤ 64
+  pub each : (i j : ℕ) → i < j → j < n → (angleIn m i j ≡ unset) ⊎ (angleIn m i j ≡ angle (directionAt m i) (directionAt m j))
+
+-- the directions at four positions
+abbrev pub fourAt : List Float → Four → List (List Float)
+fourAt m q = directionAt m (q .a) ∷ directionAt m (q .b) ∷ directionAt m (q .c) ∷ directionAt m (q .d) ∷ []
+
+-- what asking for angles leaves: the same directions, and angles held as before
+pub record Still (m m' : List Float) : Type 0 where
+  pub directions : (k : ℕ) → k < 64 → directionAt m' k ≡ directionAt m k
+  pub held : (n : ℕ) → AnglesHeld n m → AnglesHeld n m'
+  pub long : length m' ≡ 2208
+
+-- what is laid for a pass: the first n directions, and their angles
+pub record Laid (dirs : List (List Float)) (n : ℕ) (m : List Float) : Type 0 where
+  pub directions : (k : ℕ) → k < n → directionAt m k ≡ threeOf (getD dirs k [])
+  pub held : AnglesHeld n m
+  pub long : length m ≡ 2208
