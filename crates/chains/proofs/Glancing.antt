@@ -58,18 +58,18 @@ module _ (stars : List Float) (k : Known) (made : ℕ) where
   stars-known t = sym (rw t)
 
   module _ (f : k .asked ≡ false) where
-    pub stars-later : made < starCount stars / 4 → k ≡ askedStars stars k made
+    pub stars-later : made < starCount stars / 32 → k ≡ askedStars stars k made
     unfolding askedStars
-    stars-later l = sym (rw (f, lt-ltb made (starCount stars / 4) l))
+    stars-later l = sym (rw (f, lt-ltb made (starCount stars / 32) l))
 
-    module _ (l : starCount stars / 4 ≤ made) (b : Bool) (e : b ≡ everyStar stars) where
+    module _ (l : starCount stars / 32 ≤ made) (b : Bool) (e : b ≡ everyStar stars) where
       pub stars-sound : b ≡ true → record { asked = true; sound = starCount stars } ≡ askedStars stars k made
       unfolding askedStars
-      stars-sound t = sym (rw (f, le-ltb made (starCount stars / 4) l, ← e, t))
+      stars-sound t = sym (rw (f, le-ltb made (starCount stars / 32) l, ← e, t))
 
       pub stars-unsound : b ≡ false → record { asked = true; sound = 0 } ≡ askedStars stars k made
       unfolding askedStars
-      stars-unsound t = sym (rw (f, le-ltb made (starCount stars / 4) l, ← e, t))
+      stars-unsound t = sym (rw (f, le-ltb made (starCount stars / 32) l, ← e, t))
 
 all-sound-below : (stars : List Float) → SoundBelow stars (soundStars stars)
 all-sound-below stars i l = by (everyStar stars) refl l
@@ -81,7 +81,7 @@ all-sound-below stars i l = by (everyStar stars) refl l
 -- what is known of the stars stays true
 pub known-below : (stars : List Float) (k : Known) (made : ℕ) → SoundBelow stars (k .sound) → SoundBelow stars (askedStars stars k made .sound)
 unfolding askedStars
-known-below stars k made s = by (k .asked) (ltb made (starCount stars / 4))
+known-below stars k made s = by (k .asked) (ltb made (starCount stars / 32))
   where
     by : (b c : Bool) → SoundBelow stars ((cond b k (cond c k (record { asked = true; sound = soundStars stars }))) .sound)
     by true c = s

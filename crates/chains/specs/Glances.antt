@@ -24,7 +24,7 @@ soundStars stars = cond (everyStar stars) (starCount stars) 0
 
 -- what a call that has made so many reads knows of the stars: it asks once
 unfoldable pub askedStars : List Float → Known → ℕ → Known
-askedStars stars k made = cond (k .asked) k (cond (ltb made (starCount stars / 4)) k (record { asked = true; sound = soundStars stars }))
+askedStars stars k made = cond (k .asked) k (cond (ltb made (starCount stars / 32)) k (record { asked = true; sound = soundStars stars }))
 
 -- "A differing mark goes on to the next probe", once question 9 has let the entry through
 unfoldable pub passesBy : List Float → ℕ → List ℕ → Bool

@@ -37,7 +37,7 @@ pub struct Known {
     pub sound: u32,
 }
 
-// Asks question 9 of every star once, when a call has made a quarter as many reads as there are stars: from then on it pays.
+// Asks question 9 of every star once, when a call has made a 32nd as many reads as there are stars: asking them all costs about as much as so many reads.
 pub fn ask_stars(stars: &[f32], known: Known, made: u64) -> Known
     requires { ⌜ length (now stars) ≤ 3145728 ⌝ }
     ensures { λ r. ⌜ r ≡ askedStars (now (stars .entry)) known made ⌝ }
@@ -46,7 +46,7 @@ pub fn ask_stars(stars: &[f32], known: Known, made: u64) -> Known
         return known;
     }
     let n = stars.len() / 3;
-    if made < (n / 4) as u64 {
+    if made < (n / 32) as u64 {
         return known;
     }
     if star_slice::every_star_sound(stars) {

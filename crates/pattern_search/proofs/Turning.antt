@@ -41,7 +41,7 @@ use Rattle.search_feed.specs.declared.Seen.{Seen}
 use Rattle.search_feed.specs.declared.Seen.the-variants.{Empty, Unsound, Passed, Found}
 use Rattle.search_feed.proofs.Limits.{every-four-keyed, fitting, keys-counted}
 use Rattle.search_steps.specs.Steps.{steppedOf}
-use Rattle.search_steps.specs.Desks.{AtRead}
+use Rattle.next_read.specs.Desks.{AtRead}
 use Rattle.pattern_search.specs.Answers.{said, shown}
 use Rattle.pattern_search.specs.Turns.{stopping, goingOn, refusesOf, sawEntry, toldOf, Ready, Turned, rest}
 use Rattle.pattern_search.specs.declared.Searched.{Searched}

@@ -1,12 +1,12 @@
 use mathlib.Core.Logic.{⊎-elim}
 use mathlib.Core.Path.{sym, ap, _∙_}
 use Rattle.search_desk.proofs.Laid.{laid-pass}
-use Rattle.search_steps.proofs.Desks.{kept-same}
-use Rattle.search_steps.proofs.Stepping.{probe-follows, probes-end, probe-stops}
+use Rattle.next_read.proofs.Desks.{kept-same}
+use Rattle.next_read.proofs.Following.{probe-follows, probes-end, probe-stops}
 use Rattle.undivided_run.specs.declared.Next.the-variants.{Goes}
 use borrow.Author.Needs.{needs}
-use Rattle.search_steps.proofs.after.after.Statement.{statement}
-use Rattle.search_steps.proofs.after.after.Tie as tie
+use Rattle.next_read.proofs.after.Statement.{statement}
+use Rattle.next_read.proofs.after.Tie as tie
 
 add-if2 : tie.Need-add-if2
 add-if2 c = search needs

@@ -10,9 +10,8 @@ ghost use Rattle.search_feed.specs.Data.{frameOf, dataOf};
 ghost use Rattle.search_feed.specs.Feed.{feed};
 ghost use Rattle.search_desk.specs.Desk.{PassDesk};
 ghost use Rattle.search_feed.specs.Claims.{Asked5};
-ghost use Rattle.search_steps.specs.Steps.{beginOf};
-ghost use Rattle.search_steps.specs.Desks.{DeskAfter, AtRead};
-use crate::Reached;
+ghost use Rattle.next_read.specs.Begins.{beginOf};
+ghost use Rattle.next_read.specs.Desks.{DeskAfter, AtRead};
 use combinations::Four;
 use combinations::MaybeFour;
 use search_desk::Held;
@@ -20,6 +19,12 @@ use search_feed::SearchConfig;
 use undivided_run::Next;
 use undivided_run::Position;
 use undivided_run::Status;
+
+// The next read, with the desk as it lies then.
+pub struct Reached {
+    pub next: Next,
+    pub held: Held,
+}
 
 // What a pass begins with: its first combination, or its status where it has no read.
 pub enum Begin {

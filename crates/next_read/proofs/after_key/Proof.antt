@@ -1,11 +1,11 @@
 use mathlib.Core.Path.{sym, ap, _∙_}
 use Rattle.search_desk.proofs.Laid.{laid-pass}
-use Rattle.search_steps.proofs.Desks.{kept-same}
-use Rattle.search_steps.proofs.Stepping.{key-follows, key-ends}
+use Rattle.next_read.proofs.Desks.{kept-same}
+use Rattle.next_read.proofs.Following.{key-follows, key-ends}
 use Rattle.undivided_run.specs.declared.Next.the-variants.{Goes}
 use borrow.Author.Needs.{needs}
-use Rattle.search_steps.proofs.after.after_key.Statement.{statement}
-use Rattle.search_steps.proofs.after.after_key.Tie as tie
+use Rattle.next_read.proofs.after_key.Statement.{statement}
+use Rattle.next_read.proofs.after_key.Tie as tie
 
 add-if1 : tie.Need-add-if1
 add-if1 c = search needs

@@ -2,8 +2,8 @@ use borrow.Author.Needs.{needs}
 use Rattle.search_feed.specs.Data.{frameOf, dataOf}
 use Rattle.search_feed.specs.Feed.{feed}
 use Rattle.search_steps.proofs.Stepping.{stepped}
-use Rattle.search_steps.proofs.walk.step.Statement.{statement}
-use Rattle.search_steps.proofs.walk.step.Tie as tie
+use Rattle.search_steps.proofs.step.Statement.{statement}
+use Rattle.search_steps.proofs.step.Tie as tie
 
 count-requires : tie.Need-count-requires
 count-requires c κs = search needs

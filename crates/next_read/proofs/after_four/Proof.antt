@@ -1,10 +1,10 @@
 use mathlib.Core.Path.{sym, _∙_}
 use Rattle.search_desk.proofs.Laid.{laid-pass, next-pass-fits, next-pass-inside}
-use Rattle.search_steps.proofs.Desks.{kept-same}
-use Rattle.search_steps.proofs.Stepping.{four-follows, four-ends}
+use Rattle.next_read.proofs.Desks.{kept-same}
+use Rattle.next_read.proofs.Following.{four-follows, four-ends}
 use borrow.Author.Needs.{needs}
-use Rattle.search_steps.proofs.after.after_four.Statement.{statement}
-use Rattle.search_steps.proofs.after.after_four.Tie as tie
+use Rattle.next_read.proofs.after_four.Statement.{statement}
+use Rattle.next_read.proofs.after_four.Tie as tie
 
 next-four-requires : tie.Need-next-four-requires
 next-four-requires c κs = search needs

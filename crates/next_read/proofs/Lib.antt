@@ -1,0 +1,3 @@
+pub mod Desks
+pub mod Beginning
+pub mod Following
