@@ -75,10 +75,7 @@ pub fn upper(r: [f32; 5], e: f32, bins: u32, c: [u32; 5]) -> [u32; 5]
 fn pair(lo: u32, hi: u32) -> bool
     ensures { λ b. ⌜ b ≡ pairOf lo hi ⌝ }
 {
-    if hi <= lo {
-        return true;
-    }
-    hi - lo == 1
+    hi as u64 <= lo as u64 + 1
 }
 
 // Whether every part has at most two values.
