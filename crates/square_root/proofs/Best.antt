@@ -1,24 +1,25 @@
--- `rootOf` is the square root, rounded to the nearest: for every `f32` x above 0, √x is nearer to `rootOf x` than to any other `f32` z (`root-nearest`).
+-- `rootOf` is the square root, rounded to the nearest: for every `f32` x above 0, `rootOf x` is an `f32`, and √x is nearer to it than to any other `f32` z (`root-nearest`).
 -- The distances are equal nowhere, so no rule for ties is needed. Assumes nothing.
 use mathlib.Core.Path.{_≡_, refl, sym, ap, _∙_, subst}
 use mathlib.Core.Logic.{_⊎_, inl, inr}
-use Prim.Native.Nat.{ℕ, zero, suc, _+_, _-_, _*_, _/_, _%_, _^_, _≤_, _<_, zero-le}
-use native.Mathlib.Nat.{le-of-eq, le-of-lt, le-trans, lt-irrefl, lt-of-lt-of-le, lt-of-le-of-lt, lt-of-not-le, not-le-of-lt, eq-or-lt-of-le, mul-assoc, mul-comm, mul-right-comm, mul-mul-mul-comm, mul-pos, add-mul, mul-le-mul-left, mul-le-mul-right, mul-lt-mul-of-pos-right, lt-of-mul-lt-mul-right, mul-div-cancel, zero-lt-suc, zero-mul, zero-div, pow-succ'}
+use Prim.Native.Nat.{ℕ, zero, suc, _+_, _-_, _*_, _/_, _%_, _^_, _≤_, _<_}
+use native.Mathlib.Nat.{le-of-eq, le-of-lt, le-trans, lt-irrefl, lt-of-lt-of-le, lt-of-le-of-lt, lt-of-not-le, not-le-of-lt, eq-or-lt-of-le, mul-assoc, mul-right-comm, mul-mul-mul-comm, mul-pos, add-mul, mul-le-mul-left, mul-le-mul-right, mul-lt-mul-of-pos-right, lt-of-mul-lt-mul-right, mul-div-cancel, zero-lt-suc, zero-mul, zero-div, pow-succ'}
 use native.Mathlib.Omega.{arith}
 use mathlib.Core.Bool.{Bool, true, false, not}
-use lib.Dec.{T, ltb, leb, ltb→lt, lt→ltb, nltb→le}
+use lib.Dec.{T, ltb, ltb→lt, lt→ltb, nltb→le}
 use lib.Count.{leadingZeros}
-use lib.Pow.{pow-add, pow-pos, pow-mono}
+use lib.Pow.{pow-add, pow-pos, pow-mono, shl-lt}
 use lib.IntN.{ℤ, pos}
 use lib.Ieee.{Float, nan, inf, fin, binary32, up, down, fits, le, odd, ofBits, toBits}
 use lib.Ieee.Scale.{finite}
 use lib.Ieee.Bits.{ofBits-toBits}
+use lib.Ieee.Fits.{odd-fits}
 use lib.Ieee.Exact.{HasValue, odd-sign}
-use lib.Ieee.Positive.{positive, num, den, den-pos, value→cross}
+use lib.Ieee.Positive.{positive, num, den, den-pos, value→cross, positive-of-value}
 use Rattle.square_root.specs.Root.{rootOf}
 use Rattle.square_root.specs.Best.{nought, grid, fine, Nearer, NoneNearer}
 use Rattle.square_root.specs.Steps.{Nearest}
-use Rattle.square_root.proofs.Squares.{sq-mono, sq-next, sq-gap, sq-odd, root-low, mids-below, mids-above}
+use Rattle.square_root.proofs.Squares.{sq-mono, sq-next, sq-gap, sq-odd, root-low, mids-below}
 use Rattle.square_root.proofs.Count.{four-pos}
 use Rattle.square_root.proofs.Patterns.{normal-is, subnormal-is}
 use Rattle.square_root.proofs.Values.{four-pow, scaled, doubled, in-range, Shape, shape-root, normal-shape, small-shape, moved}
@@ -177,31 +178,68 @@ shape-of x F p =
 two : (e : ℕ) → e % 2 < 2
 two e = omega arith
 
-pub root-nearest : NoneNearer
-unfolding Digits
-root-nearest x z F p G r v =
+-- x as m * 2 ^ (e - 173), and q, the digits of its root
+record Rooted (x : Float) : Type 0 where
+  m : ℕ
+  e : ℕ
+  q : ℕ
+  shape : Shape x m e
+  low : 70368744177664 ≤ m * 2 ^ (23 + e % 2)
+  near : Nearest (m * 2 ^ (23 + e % 2)) q
+
+rooted : (x : Float) → T (fits binary32 x) → T (positive x) → Rooted x
+rooted x F p =
     let s = shape-of x F p in
     let m = s .0 in
     let e = s .1 in
     let h = s .2 in
-    let n = m * 2 ^ (23 + e % 2) in
-    let d = e / 2 + 51 in
     let range = in-range m (e % 2) (h .low) (h .high) (two e) in
     let same = doubled m (e % 2) (two e) in
-    let low : 70368744177664 ≤ n = le-trans (range .0) (le-of-eq same) in
-    let high : n ≤ 281474959933440 = le-trans (le-of-eq (sym same)) (range .1) in
-    let o = nearest-of n low high in
-    let q = o .0 in
-    let g : grid (rootOf x) ≡ q * 2 ^ d = grid-is (rootOf x) (q * 2 ^ d) (subst (λ (y : Float). HasValue y false (q * 2 ^ d) (2 ^ 149)) (sym (shape-root x m e q h (o .1))) (odd-sign 24 false q d 149)) in
-    let ww : fine x ≡ n * 4 ^ d = fine-is x (h .a) (h .value) ∙ h .same ∙ scaled m e in
-    let k = digits z G r v in
-    let t = k .0 in
-    let f = k .1 in
-    record {
-      from-below = subst (λ (a : ℕ). a < grid (rootOf x) → (a + grid (rootOf x)) * (a + grid (rootOf x)) < 4 * fine x) (sym (k .3))
-          (subst (λ (b : ℕ). t * 2 ^ f < b → (t * 2 ^ f + b) * (t * 2 ^ f + b) < 4 * fine x) (sym g)
-          (subst (λ (v : ℕ). t * 2 ^ f < q * 2 ^ d → (t * 2 ^ f + q * 2 ^ d) * (t * 2 ^ f + q * 2 ^ d) < 4 * v) (sym ww) (smaller n q d t f (o .1) low (k .2))));
-      from-above = subst (λ (a : ℕ). grid (rootOf x) < a → 4 * fine x < (a + grid (rootOf x)) * (a + grid (rootOf x))) (sym (k .3))
-          (subst (λ (b : ℕ). b < t * 2 ^ f → 4 * fine x < (t * 2 ^ f + b) * (t * 2 ^ f + b)) (sym g)
-          (subst (λ (v : ℕ). q * 2 ^ d < t * 2 ^ f → 4 * v < (t * 2 ^ f + q * 2 ^ d) * (t * 2 ^ f + q * 2 ^ d)) (sym ww) (larger n q d t f (o .1) low (k .2))));
-    }
+    let low : 70368744177664 ≤ m * 2 ^ (23 + e % 2) = le-trans (range .0) (le-of-eq same) in
+    let o = nearest-of (m * 2 ^ (23 + e % 2)) low (le-trans (le-of-eq (sym same)) (range .1)) in
+    record { m = m; e = e; q = o .0; shape = h; low = low; near = o .1 }
+
+module _ (x : Float) (o : Rooted x) where
+  root-is : rootOf x ≡ odd 24 false (o .q) (o .e / 2 + 51) 149
+  root-is = shape-root x (o .m) (o .e) (o .q) (o .shape) (o .near)
+
+  root-value : HasValue (rootOf x) false (o .q * 2 ^ (o .e / 2 + 51)) (2 ^ 149)
+  root-value = subst (λ (y : Float). HasValue y false (o .q * 2 ^ (o .e / 2 + 51)) (2 ^ 149)) (sym root-is) (odd-sign 24 false (o .q) (o .e / 2 + 51) 149)
+
+  root-above : T (positive (rootOf x))
+  root-above = positive-of-value (rootOf x) (o .q * 2 ^ (o .e / 2 + 51)) (2 ^ 149) root-value (mul-pos (lt-of-lt-of-le (zero-lt-suc 8388607) (o .near .low)) (pow-pos (o .e / 2 + 51)))
+
+  -- its 24 digits and its size are those of an f32
+  root-held : T (fits binary32 (rootOf x))
+  root-held =
+      let q = o .q in
+      let d = o .e / 2 + 51 in
+      let high = o .near .high in
+      subst (λ (y : Float). T (fits binary32 y)) (sym root-is)
+      (odd-fits binary32 24 false q d high (le-of-lt high) (lt-of-lt-of-le (shl-lt 24 d high) (pow-mono (reach (o .e) (o .shape .small)))))
+    where
+      reach : (e : ℕ) → e < 278 → 24 + (e / 2 + 51) ≤ 277
+      reach e h = omega arith
+
+  none-nearer : (z : Float) → T (fits binary32 z) → T (finite z) → T (le nought z) → Nearer x (rootOf x) z
+  unfolding Digits
+  none-nearer z G r v =
+      let q = o .q in
+      let n = o .m * 2 ^ (23 + o .e % 2) in
+      let d = o .e / 2 + 51 in
+      let g : grid (rootOf x) ≡ q * 2 ^ d = grid-is (rootOf x) (q * 2 ^ d) root-value in
+      let ww : fine x ≡ n * 4 ^ d = fine-is x (o .shape .a) (o .shape .value) ∙ o .shape .same ∙ scaled (o .m) (o .e) in
+      let k = digits z G r v in
+      let t = k .0 in
+      let f = k .1 in
+      record {
+        from-below = subst (λ (a : ℕ). a < grid (rootOf x) → (a + grid (rootOf x)) * (a + grid (rootOf x)) < 4 * fine x) (sym (k .3))
+            (subst (λ (b : ℕ). t * 2 ^ f < b → (t * 2 ^ f + b) * (t * 2 ^ f + b) < 4 * fine x) (sym g)
+            (subst (λ (v : ℕ). t * 2 ^ f < q * 2 ^ d → (t * 2 ^ f + q * 2 ^ d) * (t * 2 ^ f + q * 2 ^ d) < 4 * v) (sym ww) (smaller n q d t f (o .near) (o .low) (k .2))));
+        from-above = subst (λ (a : ℕ). grid (rootOf x) < a → 4 * fine x < (a + grid (rootOf x)) * (a + grid (rootOf x))) (sym (k .3))
+            (subst (λ (b : ℕ). b < t * 2 ^ f → 4 * fine x < (t * 2 ^ f + b) * (t * 2 ^ f + b)) (sym g)
+            (subst (λ (v : ℕ). q * 2 ^ d < t * 2 ^ f → 4 * v < (t * 2 ^ f + q * 2 ^ d) * (t * 2 ^ f + q * 2 ^ d)) (sym ww) (larger n q d t f (o .near) (o .low) (k .2))));
+      }
+
+pub root-nearest : NoneNearer
+root-nearest x F p = let o = rooted x F p in (root-held x o, root-above x o, none-nearer x o)

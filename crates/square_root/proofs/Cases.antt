@@ -1,13 +1,13 @@
 -- What `root`'s tests say of x, and `rootOf` where no root is worked out. Assumes nothing.
 use mathlib.Core.Path.{_≡_, refl, sym, ap, _∙_, subst}
-use Prim.Native.Nat.{ℕ, zero, suc, _*_, _≤_, _<_, zero-le}
+use Prim.Native.Nat.{ℕ, zero, suc, _*_, _<_, zero-le}
 use native.Mathlib.Nat.{le-of-eq, lt-of-le-of-lt, lt-of-lt-of-le, lt-irrefl, zero-mul, zero-lt-suc, mul-pos}
 use mathlib.Core.Bool.{Bool, true, false, not, _&&_, _||_, Bool·beq, true≢false, false≢true}
-use lib.IntN.{ℤ, pos}
+use lib.IntN.{ℤ}
 use lib.Dec.{T, ltb, eqb, ltb→lt, lt→ltb, eqb→eq}
-use lib.Ieee.{Float, nan, inf, fin, Format, binary32, up, down, lt, eq, fits, isNan, ofBits, toBits}
+use lib.Ieee.{Float, nan, inf, fin, binary32, up, down, lt, eq, fits, isNan, ofBits, toBits}
 use lib.Ieee.Bits.{is-true, ofBits-toBits}
-use lib.Ieee.Fits.{up-pos, down-pos, and-l, and-i, eq→eqb}
+use lib.Ieee.Fits.{up-pos, and-l, and-i, eq→eqb}
 use lib.Ieee.Positive.{positive, first-pos}
 use Rattle.square_root.specs.Root.{rootOf}
 use Rattle.square_root.specs.Best.{nought}

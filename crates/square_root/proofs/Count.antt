@@ -1,11 +1,10 @@
 -- `count` of a test that the first q numbers pass and no other is q. So `nearestRoot` is the q with (q - 1/2)² < n ≤ (q + 1/2)². Assumes nothing.
 use mathlib.Core.Path.{_≡_, refl, sym, ap, _∙_, subst}
 use mathlib.Core.Logic.{_⊎_, inl, inr}
-use Prim.Native.Nat.{ℕ, zero, suc, _+_, _-_, _*_, _^_, _≤_, _<_, zero-le}
+use Prim.Native.Nat.{ℕ, zero, suc, _+_, _*_, _^_, _≤_, _<_, zero-le}
 use native.Mathlib.Nat.{le-of-eq, le-trans, le-of-lt, lt-of-lt-of-le, eq-or-lt-of-le, le-of-suc-le-suc, lt-suc-self, le-antisymm, mul-assoc, mul-lt-mul-of-pos-right, mul-le-mul-right, one-le-pow, zero-lt-suc}
-use native.Mathlib.Omega.{arith}
-use mathlib.Core.Bool.{Bool, true, false, not, cond}
-use lib.Dec.{T, ltb, lt→ltb}
+use mathlib.Core.Bool.{Bool, not, cond}
+use lib.Dec.{T, lt→ltb}
 use lib.Arith.{le→nltb}
 use lib.Ieee.Bits.{is-true, is-false}
 use Rattle.square_root.specs.Root.{count, midBelow, nearestRoot}

@@ -1,14 +1,14 @@
 -- Roots of single values, by computation: the conditions are tests on numerals. Assumes nothing.
-use mathlib.Core.Path.{_≡_, refl, sym, ap, _∙_, subst}
-use Prim.Native.Nat.{ℕ, zero, suc, _+_, _-_, _*_, _/_, _^_}
-use mathlib.Core.Bool.{Bool, true, false, _&&_}
+use mathlib.Core.Path.{_≡_, ap, _∙_}
+use Prim.Native.Nat.{ℕ, suc, _+_, _-_, _*_, _/_, _^_}
+use mathlib.Core.Bool.{Bool, false, _&&_}
 use lib.IntN.{ℤ, pos, negsuc}
 use lib.Dec.{T, leb, ltb, eqb, ltb→lt, leb→le, eqb→eq}
-use lib.Ieee.{Float, fin, binary32, up, down, size, odd, ofBits}
+use lib.Ieee.{fin, binary32, up, down, size, odd, ofBits}
 use lib.Ieee.Fits.{and-l, and-r}
 use Rattle.square_root.specs.Root.{nearestRoot, rootOf}
 use Rattle.square_root.proofs.Count.{nearest-is}
-use Rattle.square_root.proofs.Values.{ofWhole, ofWhole-at, root-pos}
+use Rattle.square_root.proofs.Values.{ofWhole-at, root-pos}
 
 -- w is n * 4 ^ d, and q is the number nearest to √n
 unfoldable pub right : ℕ → ℕ → ℕ → ℕ → Bool
@@ -45,8 +45,3 @@ quarter = root-is 0 (negsuc 1) (2 ^ 46) 125 (2 ^ 23) tt
 pub two : rootOf (fin false 1 (pos 1)) ≡ ofBits binary32 0x3FB5_04F3
 unfolding right odd ofBits
 two = root-is 0 (pos 1) (2 ^ 47) 126 0xB504F3 tt
-
--- the root of the smallest value, 2 ^ -149, by patterns
-pub smallest : rootOf (ofBits binary32 1) ≡ ofBits binary32 0x1A35_04F3
-unfolding right odd ofBits
-smallest = root-is 0 (negsuc 148) (2 ^ 47) 51 0xB504F3 tt

@@ -2,30 +2,29 @@
 --   root-nought    the root of +0 is +0 (and of -0, -0)
 --   root-not-below the root of what is not below zero is no NaN and not below zero
 --   root-finite    the root of what is finite and not below zero is finite
---   root-positive  the root of a positive finite value is positive and finite
 --   root-mono      the root keeps the order
 --   root-half      the root of what is at most 0.25 is at most 0.5
 -- Assumes nothing.
 use mathlib.Core.Path.{_≡_, refl, sym, ap, _∙_, subst}
 use mathlib.Core.Logic.{_⊎_, inl, inr}
-use Prim.Native.Nat.{ℕ, zero, suc, _+_, _*_, _/_, _%_, _^_, _≤_, _<_, zero-le}
-use native.Mathlib.Nat.{le-of-eq, le-trans, lt-of-lt-of-le, lt-of-le-of-lt, lt-irrefl, zero-lt-suc, zero-mul, mul-pos, mul-right-comm, mul-le-mul-right, mul-le-mul, one-mul, le-div-iff-mul-le}
+use Prim.Native.Nat.{ℕ, zero, suc, _+_, _*_, _/_, _^_, _≤_, _<_}
+use native.Mathlib.Nat.{le-of-eq, le-trans, lt-of-lt-of-le, lt-of-le-of-lt, lt-irrefl, zero-lt-suc, zero-mul, mul-pos, mul-right-comm, mul-le-mul-right}
 use native.Mathlib.Omega.{arith}
-use mathlib.Core.Bool.{Bool, true, false, not, _&&_, _||_, Bool·beq, true≢false}
+use mathlib.Core.Bool.{Bool, true, false, _&&_, _||_, true≢false}
 use lib.IntN.{ℤ, pos, negsuc}
-use lib.Dec.{T, ltb, leb, eqb, ltb→lt, lt→ltb, leb→le, eqb→eq, lit≤}
-use lib.Pow.{pow-pos, pow-mono}
-use lib.Ieee.{Float, nan, inf, fin, binary32, prec, low, emax, up, down, le, fits}
+use lib.Dec.{T, ltb, eqb, ltb→lt, lt→ltb, eqb→eq}
+use lib.Pow.{pow-pos}
+use lib.Ieee.{Float, nan, inf, fin, up, down, le}
 use lib.Ieee.Fits.{up-pos, down-pos, and-l, and-r, and-i, eq→eqb}
 use lib.Ieee.Exact.{HasValue}
 use lib.Ieee.Nearest.{div-mono}
 use lib.Ieee.Order.{le-of-values}
-use lib.Ieee.Positive.{positive, positive-of-value, le→cross}
+use lib.Ieee.Positive.{le→cross}
 use lib.Ieee.Scale.{finite}
 use Rattle.square_root.specs.Root.{rootOf}
 use Rattle.square_root.specs.Best.{nought}
-use Rattle.square_root.proofs.Values.{ofWhole, root-pos}
-use Rattle.square_root.proofs.Monotone.{units, whole-value, units-mono, units-pos}
+use Rattle.square_root.proofs.Values.{root-pos}
+use Rattle.square_root.proofs.Monotone.{units, whole-value, units-mono}
 use Rattle.square_root.proofs.Examples.{quarter}
 
 pub root-nought : (s : Bool) → rootOf (fin s 0 (pos 0)) ≡ fin s 0 (pos 0)
@@ -120,10 +119,6 @@ root-inf : rootOf (inf false) ≡ inf false
 unfolding rootOf
 root-inf = refl
 
-inf-over : T (le nought (inf false))
-unfolding le
-inf-over = tt
-
 below-nan : (x : Float) → T (le x nan) → ⊥
 unfolding le
 below-nan nan t = t
@@ -153,25 +148,6 @@ root-finite (inf s) f h = absurd f
 root-finite (fin s zero e) f h = subst (λ (y : Float). T (finite y)) (sym (root-same s e)) tt
 root-finite (fin true (suc m) e) f h = absurd (zero-over-negative false (pos 0) m e h)
 root-finite (fin false (suc m) e) f h = finite-of-value (rootOf (fin false (suc m) e)) (units (suc m * up e * 2 ^ 298 / down e)) (2 ^ 149) (root-of m e)
-
--- ---- positive
-least : (m : ℕ) (e : ℤ) → T (fits binary32 (fin false (suc m) e)) → 0 < suc m * up e * 2 ^ 298 / down e
-unfolding fits
-least m e t =
-    let a = eqb (suc m % 2) 1 && ltb (suc m) (2 ^ 24) in
-    let b = leb (down e) (2 ^ 149) in
-    let fine : down e ≤ 2 ^ 149 = leb→le (down e) (2 ^ 149) (and-r a b (and-l (a && b) (ltb (suc m * up e) (2 ^ 128 * down e)) t)) in
-    le-div-iff-mul-le (down-pos e) .1
-    (le-trans (le-of-eq (one-mul (down e)))
-    (le-trans fine (le-trans (lit≤ tt) (le-trans (le-of-eq (sym (one-mul (2 ^ 298)))) (mul-le-mul-right (2 ^ 298) (mul-pos (zero-lt-suc m) (up-pos e)))))))
-
-pub root-positive : (x : Float) → T (fits binary32 x) → T (positive x) → T (positive (rootOf x))
-root-positive nan f p = absurd p
-root-positive (inf s) f p = absurd p
-root-positive (fin true m e) f p = absurd p
-root-positive (fin false zero e) f p = absurd p
-root-positive (fin false (suc m) e) f p =
-    positive-of-value (rootOf (fin false (suc m) e)) (units (suc m * up e * 2 ^ 298 / down e)) (2 ^ 149) (root-of m e) (units-pos (suc m * up e * 2 ^ 298 / down e) (least m e f))
 
 -- ---- order
 under-inf : (x : Float) → T (le nought x) → T (le x (inf false))

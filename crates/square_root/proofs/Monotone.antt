@@ -1,13 +1,13 @@
 -- The root keeps the order: of two whole numbers w the larger has the larger rounded root. This holds of every w, so nothing is asked of the floats. Assumes nothing.
-use mathlib.Core.Path.{_≡_, refl, sym, ap, _∙_, subst}
+use mathlib.Core.Path.{_≡_, sym, ap, _∙_, subst}
 use mathlib.Core.Logic.{_⊎_, inl, inr}
 use Prim.Native.Nat.{ℕ, zero, suc, _+_, _-_, _*_, _/_, _^_, _≤_, _<_, zero-le, suc-le-suc}
-use native.Mathlib.Nat.{le-refl, le-of-eq, le-of-lt, le-trans, le-suc, lt-of-lt-of-le, lt-of-le-of-lt, eq-or-lt-of-le, eq-zero-or-pos, le-of-suc-le-suc, lt-suc-self, mul-assoc, mul-comm, one-mul, mul-pos, mul-le-mul-left, mul-le-mul-right, mul-lt-mul-of-pos-right, pow-succ'}
+use native.Mathlib.Nat.{le-refl, le-of-eq, le-trans, le-suc, lt-of-lt-of-le, lt-of-le-of-lt, eq-or-lt-of-le, le-of-suc-le-suc, lt-suc-self, mul-assoc, mul-le-mul-left, mul-le-mul-right, mul-lt-mul-of-pos-right, pow-succ'}
 use native.Mathlib.Omega.{arith}
-use mathlib.Core.Bool.{Bool, true, false, not, cond}
-use lib.Dec.{T, ltb, lt→ltb, ltb→lt, lit<, lit≤}
-use lib.Pow.{pow-add, pow-pos, pow-mono}
-use lib.Ieee.{Float, odd, size}
+use mathlib.Core.Bool.{Bool, true, false, cond}
+use lib.Dec.{T, lt→ltb, ltb→lt, lit≤}
+use lib.Pow.{pow-add, pow-mono}
+use lib.Ieee.{size}
 use lib.Ieee.Digits.{size-lt, size-le, size-reaches}
 use lib.Ieee.Exact.{HasValue, odd-sign}
 use Rattle.square_root.specs.Root.{count, midBelow, nearestRoot}
@@ -101,27 +101,3 @@ units-mono w v h = go (eq-or-lt-of-le (exponent-mono (size w) (size v) (size-mon
 pub whole-value : (w : ℕ) → HasValue (ofWhole w) false (units w) (2 ^ 149)
 unfolding ofWhole
 whole-value w = odd-sign 24 false (nearestRoot w (exponent w)) (exponent w) 149
-
--- a w above 0 has a root above 0
-nearest-pos : (w d : ℕ) → 4 ^ d < 4 * w → 1 ≤ nearestRoot w d
-unfolding nearestRoot
-nearest-pos w d h = count-ge (midBelow w d) 1 16777216 (lit≤ tt) (λ k l. first k (only k l))
-  where
-    only : (k : ℕ) → k < 1 → k ≡ 0
-    only k l = omega arith
-
-    first : (k : ℕ) → k ≡ 0 → T (midBelow w d k)
-    first k z = subst (λ (x : ℕ). T (midBelow w d x)) (sym z) (lt→ltb (1 * 4 ^ d) (4 * w) (lt-of-le-of-lt (le-of-eq (one-mul (4 ^ d))) h))
-
-pub units-pos : (w : ℕ) → 0 < w → 0 < units w
-units-pos w h = mul-pos (nearest-pos w (exponent w) (go (eq-zero-or-pos (exponent w)))) (pow-pos (exponent w))
-  where
-    four : (w : ℕ) → 0 < w → 1 < 4 * w
-    four w h = omega arith
-
-    far : (a w : ℕ) → 0 < a → 70368744177664 * a ≤ w → a < 4 * w
-    far a w p h = omega arith
-
-    go : (exponent w ≡ 0) ⊎ (0 < exponent w) → 4 ^ exponent w < 4 * w
-    go (inl z) = subst (λ (d : ℕ). 4 ^ d < 4 * w) (sym z) (four w h)
-    go (inr p) = far (4 ^ exponent w) w (four-pos (exponent w)) (reached w p)

@@ -1,12 +1,11 @@
 -- `rootOf` of a positive value, by the whole numbers that the code computes with. Assumes nothing.
 use mathlib.Core.Path.{_≡_, refl, sym, ap, _∙_, subst}
-use mathlib.Core.Logic.{_⊎_, inl, inr}
-use Prim.Native.Nat.{ℕ, zero, suc, _+_, _-_, _*_, _/_, _%_, _^_, _≤_, _<_, zero-le}
-use native.Mathlib.Nat.{le-of-eq, le-of-lt, le-trans, lt-irrefl, lt-of-lt-of-le, lt-of-not-le, le-antisymm, zero-mul, mul-one, mul-assoc, mul-comm, mul-right-comm, mul-pos, mul-le-mul-right, mul-div-cancel, mod-eq-of-lt, pow-suc}
+use Prim.Native.Nat.{ℕ, zero, suc, _+_, _-_, _*_, _/_, _%_, _^_, _≤_, _<_}
+use native.Mathlib.Nat.{le-of-eq, le-of-lt, le-trans, lt-irrefl, lt-of-lt-of-le, lt-of-not-le, le-antisymm, zero-mul, mul-one, mul-assoc, mul-right-comm, mul-pos, mul-le-mul-right, mul-div-cancel, mod-eq-of-lt, pow-suc}
 use native.Mathlib.Omega.{arith}
-use mathlib.Core.Bool.{Bool, true, false, not, cond, true≢false}
+use mathlib.Core.Bool.{true, false, true≢false}
 use lib.IntN.{ℤ}
-use lib.Dec.{T, lit<, lit≤}
+use lib.Dec.{lit≤}
 use lib.Count.{leadingZeros, leading-top}
 use lib.Pow.{pow-add, pow-pos, pow-mono, shl-lt}
 use lib.Ieee.{Float, nan, inf, fin, binary32, up, down, size, odd, ofBits}

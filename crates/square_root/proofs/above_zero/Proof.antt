@@ -1,7 +1,6 @@
 -- `root::above_zero` meets its contract: the pattern of x is read as x. Assumes nothing.
-use mathlib.Core.Path.{_≡_, sym, ap, _∙_, subst}
+use mathlib.Core.Path.{sym, ap, _∙_, subst}
 use Prim.Native.Nat.{_<_}
-use native.Mathlib.Omega.{arith}
 use native.Mathlib.Nat.{le-of-lt}
 use lib.Dec.{T}
 use lib.Ieee.{binary32, fits, toBits}
