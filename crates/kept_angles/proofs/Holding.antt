@@ -1,9 +1,9 @@
 -- Directions and angles in the array, as it is laid, cleared and asked. Assumes nothing.
 use mathlib.Core.Path.{_≡_, refl, sym, ap, ap₂, _∙_, subst}
-use Prim.Native.Nat.{ℕ, zero, suc, _+_, _*_, _≤_, _<_}
+use Prim.Native.Nat.{ℕ, _+_, _*_, _≤_, _<_}
 use native.Mathlib.Omega.{arith}
 use mathlib.Core.Bool.{Bool, true, false}
-use mathlib.Core.List.{List, [], _∷_}
+use mathlib.Core.List.{List, []}
 use mathlib.Core.Logic.{_⊎_, inl, inr}
 use lib.IntN.{pos}
 use lib.ListN.{length, getD, set, length-set}
@@ -28,6 +28,10 @@ same-or-not x y = elim (lt-or-le x y) [
 ]
 
 -- ---- asked
+-- fewer positions have their angles held too
+pub held-fewer : (n k : ℕ) (m : List Float) → k ≤ n → AnglesHeld n m → AnglesHeld k m
+held-fewer n k m l h = record { few = omega (arith, h .few); each = λ i j a b. h .each i j a (omega arith) }
+
 unset-below : (x : Float) → x ≡ unset → lt x (fin false 0 (pos 0)) ≡ true
 unfolding lt
 unset-below x e = rw e

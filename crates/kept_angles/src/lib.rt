@@ -2,7 +2,7 @@
 // an angle for each two of 64 positions. An angle is -1 until it is first asked for.
 ghost use mathlib.Core.Path.{_≡_};
 ghost use mathlib.Core.List.{[]};
-ghost use Prim.Native.Nat.{ℕ, _≤_, _<_};
+ghost use Prim.Native.Nat.{ℕ, suc, _≤_, _<_};
 ghost use lib.ListN.{length, getD};
 ghost use Rattle.pattern.specs.Edges.{angle, angles};
 ghost use Rattle.combinations.specs.Fours.{Rising};
@@ -31,8 +31,8 @@ fn direction_at(measures: &[f32; 2208], k: usize) -> [f32; 3]
 
 // The angle of positions i and j, worked out and kept when first asked for.
 fn angle_at(measures: &mut [f32; 2208], i: usize, j: usize) -> f32
-    requires { ⌜ (i < j) × (j < 64) × (length (now measures) ≡ 2208) ⌝ }
-    ensures { λ r. ⌜ ((n : ℕ) → j < n → AnglesHeld n (now (measures .entry)) → r ≡ angle (directionAt (now (measures .entry)) i) (directionAt (now (measures .entry)) j)) ⌝ }
+    requires { ⌜ (i < j) × AnglesHeld (suc j) (now measures) × (length (now measures) ≡ 2208) ⌝ }
+    ensures { λ r. ⌜ r ≡ angle (directionAt (now (measures .entry)) i) (directionAt (now (measures .entry)) j) ⌝ }
     ensures { λ _. ⌜ Still (now (measures .entry)) (now (measures .exit)) ⌝ }
 {
     let at = row(j) + i;
@@ -49,8 +49,8 @@ fn angle_at(measures: &mut [f32; 2208], i: usize, j: usize) -> f32
 
 // The angles of the six pairs of four positions, in the source's order.
 pub fn six_angles(measures: &mut [f32; 2208], q: Four) -> [f32; 6]
-    requires { ⌜ Rising 64 q × (length (now measures) ≡ 2208) ⌝ }
-    ensures { λ r. ⌜ ((n : ℕ) → Rising n q → AnglesHeld n (now (measures .entry)) → r ≡ angles (fourAt (now (measures .entry)) q)) ⌝ }
+    requires { ⌜ Rising 64 q × AnglesHeld (suc (q .d)) (now measures) × (length (now measures) ≡ 2208) ⌝ }
+    ensures { λ r. ⌜ r ≡ angles (fourAt (now (measures .entry)) q) ⌝ }
     ensures { λ _. ⌜ Still (now (measures .entry)) (now (measures .exit)) ⌝ }
 {
     let a = q.a as usize;

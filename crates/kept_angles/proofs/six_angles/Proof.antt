@@ -3,7 +3,7 @@ use native.Mathlib.Omega.{arith}
 use borrow.Author.Needs.{needs}
 use Rattle.pattern.specs.Edges.{angles}
 use Rattle.pattern.proofs.Same.{same-six}
-use Rattle.kept_angles.proofs.Holding.{still-on, still-angle}
+use Rattle.kept_angles.proofs.Holding.{held-fewer, still-on, still-angle}
 use Rattle.kept_angles.proofs.six_angles.Statement.{statement}
 use Rattle.kept_angles.proofs.six_angles.Tie as tie
 
@@ -20,22 +20,42 @@ cast-d : tie.Need-cast-d
 cast-d c = search needs
 
 angle-at-requires : tie.Need-angle-at-requires
-angle-at-requires c κs = let b = c .before .before .before .before .before in let r = b .pre .0 in (omega (arith, r .ab), omega (arith, r .bc, r .cd, r .dn), b .pre .1)
+angle-at-requires c κs = let b = c .before .before .before .before .before in let r = b .pre .0 in (omega (arith, r .ab), held-fewer _ _ _ (omega (arith, r .bc, r .cd)) (b .pre .1), b .pre .2)
 
 angle-at-requires-2 : tie.Need-angle-at-requires-2
-angle-at-requires-2 c κs = let b = c .before .before .before .before .before .before .before in let r = b .pre .0 in (omega (arith, r .ab, r .bc), omega (arith, r .cd, r .dn), c .before .angle-at .ensures .1 .long)
+angle-at-requires-2 c κs =
+    let b = c .before .before .before .before .before .before .before in
+    let r = b .pre .0 in
+    let h = c .before .angle-at .ensures .1 .held _ (b .pre .1) in
+    (omega (arith, r .ab, r .bc), held-fewer _ _ _ (omega (arith, r .cd)) h, c .before .angle-at .ensures .1 .long)
 
 angle-at-requires-3 : tie.Need-angle-at-requires-3
-angle-at-requires-3 c κs = let b = c .before .before .before .before .before .before .before .before .before in let r = b .pre .0 in (omega (arith, r .ab, r .bc, r .cd), omega (arith, r .dn), c .before .angle-at2 .ensures .1 .long)
+angle-at-requires-3 c κs =
+    let b = c .before .before .before .before .before .before .before .before .before in
+    let r = b .pre .0 in
+    let h = c .before .angle-at2 .ensures .1 .held _ (c .before .before .before .angle-at .ensures .1 .held _ (b .pre .1)) in
+    (omega (arith, r .ab, r .bc, r .cd), h, c .before .angle-at2 .ensures .1 .long)
 
 angle-at-requires-4 : tie.Need-angle-at-requires-4
-angle-at-requires-4 c κs = let b = c .before .before .before .before .before .before .before .before .before .before .before in let r = b .pre .0 in (omega (arith, r .bc), omega (arith, r .cd, r .dn), c .before .angle-at3 .ensures .1 .long)
+angle-at-requires-4 c κs =
+    let b = c .before .before .before .before .before .before .before .before .before .before .before in
+    let r = b .pre .0 in
+    let h = c .before .angle-at3 .ensures .1 .held _ (c .before .before .before .angle-at2 .ensures .1 .held _ (c .before .before .before .before .before .angle-at .ensures .1 .held _ (b .pre .1))) in
+    (omega (arith, r .bc), held-fewer _ _ _ (omega (arith, r .cd)) h, c .before .angle-at3 .ensures .1 .long)
 
 angle-at-requires-5 : tie.Need-angle-at-requires-5
-angle-at-requires-5 c κs = let b = c .before .before .before .before .before .before .before .before .before .before .before .before .before in let r = b .pre .0 in (omega (arith, r .bc, r .cd), omega (arith, r .dn), c .before .angle-at4 .ensures .1 .long)
+angle-at-requires-5 c κs =
+    let b = c .before .before .before .before .before .before .before .before .before .before .before .before .before in
+    let r = b .pre .0 in
+    let h = c .before .angle-at4 .ensures .1 .held _ (c .before .before .before .angle-at3 .ensures .1 .held _ (c .before .before .before .before .before .angle-at2 .ensures .1 .held _ (c .before .before .before .before .before .before .before .angle-at .ensures .1 .held _ (b .pre .1)))) in
+    (omega (arith, r .bc, r .cd), h, c .before .angle-at4 .ensures .1 .long)
 
 angle-at-requires-6 : tie.Need-angle-at-requires-6
-angle-at-requires-6 c κs = let b = c .before .before .before .before .before .before .before .before .before .before .before .before .before .before .before in let r = b .pre .0 in (omega (arith, r .cd), omega (arith, r .dn), c .before .angle-at5 .ensures .1 .long)
+angle-at-requires-6 c κs =
+    let b = c .before .before .before .before .before .before .before .before .before .before .before .before .before .before .before in
+    let r = b .pre .0 in
+    let h = c .before .angle-at5 .ensures .1 .held _ (c .before .before .before .angle-at4 .ensures .1 .held _ (c .before .before .before .before .before .angle-at3 .ensures .1 .held _ (c .before .before .before .before .before .before .before .angle-at2 .ensures .1 .held _ (c .before .before .before .before .before .before .before .before .before .angle-at .ensures .1 .held _ (b .pre .1))))) in
+    (omega (arith, r .cd), h, c .before .angle-at5 .ensures .1 .long)
 
 returns : tie.Need-returns
 unfolding angles
@@ -56,13 +76,13 @@ returns c =
     let s4 = still-on m _ _ s3 (x4 .1) in
     let s5 = still-on m _ _ s4 (x5 .1) in
     let s6 = still-on m _ _ s5 (x6 .1) in (
-      λ n r h. same-six
-          (x1 .0 n (omega (arith, r .bc, r .cd, r .dn)) h)
-          (x2 .0 n (omega (arith, r .cd, r .dn)) (s1 .held n h) ∙ still-angle m _ (q .a) (q .c) s1 (omega (arith, k .ab, k .bc, k .cd, k .dn)) (omega (arith, k .cd, k .dn)))
-          (x3 .0 n (omega (arith, r .dn)) (s2 .held n h) ∙ still-angle m _ (q .a) (q .d) s2 (omega (arith, k .ab, k .bc, k .cd, k .dn)) (omega (arith, k .dn)))
-          (x4 .0 n (omega (arith, r .cd, r .dn)) (s3 .held n h) ∙ still-angle m _ (q .b) (q .c) s3 (omega (arith, k .bc, k .cd, k .dn)) (omega (arith, k .cd, k .dn)))
-          (x5 .0 n (omega (arith, r .dn)) (s4 .held n h) ∙ still-angle m _ (q .b) (q .d) s4 (omega (arith, k .bc, k .cd, k .dn)) (omega (arith, k .dn)))
-          (x6 .0 n (omega (arith, r .dn)) (s5 .held n h) ∙ still-angle m _ (q .c) (q .d) s5 (omega (arith, k .cd, k .dn)) (omega (arith, k .dn))),
+      same-six
+          (x1 .0)
+          (x2 .0 ∙ still-angle m _ (q .a) (q .c) s1 (omega (arith, k .ab, k .bc, k .cd, k .dn)) (omega (arith, k .cd, k .dn)))
+          (x3 .0 ∙ still-angle m _ (q .a) (q .d) s2 (omega (arith, k .ab, k .bc, k .cd, k .dn)) (k .dn))
+          (x4 .0 ∙ still-angle m _ (q .b) (q .c) s3 (omega (arith, k .bc, k .cd, k .dn)) (omega (arith, k .cd, k .dn)))
+          (x5 .0 ∙ still-angle m _ (q .b) (q .d) s4 (omega (arith, k .bc, k .cd, k .dn)) (k .dn))
+          (x6 .0 ∙ still-angle m _ (q .c) (q .d) s5 (omega (arith, k .cd, k .dn)) (k .dn)),
       s6,
     )
 
