@@ -116,13 +116,6 @@ pub fn u32_from_le_bytes(b: [u8; 4]) -> u32
     wide(b[0]) + wide(b[1]) * 0x100 + wide(b[2]) * 0x1_0000 + wide(b[3]) * 0x100_0000
 }
 
-// The f32 of four bytes, little-endian; the pattern may be a NaN's.
-pub fn from_le_bytes(b: [u8; 4]) -> f32
-    ensures { λ r. ⌜ r ≡ ofBits binary32 (wordOf b) ⌝ }
-{
-    from_bits(u32_from_le_bytes(b))
-}
-
 // The product modulo 2^64, of 32-bit halves.
 pub fn wrapping_mul(a: u64, b: u64) -> u64
     ensures { λ r. ⌜ r ≡ (a * b) % 2 ^ 64 ⌝ }
