@@ -13,7 +13,8 @@ use lib.Ieee.Scale.{finite}
 use lib.Ieee.Positive.{positive}
 use Rattle.square_root.specs.Root.{rootOf}
 use Rattle.square_root.proofs.Laws.{root-not-below, root-half, root-nought}
-use Rattle.float_order.specs.Value.{zero32, one32, number}
+use Rattle.float_order.specs.Value.{zero32, one32}
+use Rattle.float_order.proofs.Fraction.{number}
 use Rattle.float_order.proofs.Order.{le-through, le-right, lt→le, not-lt, lt-le-lt}
 use Rattle.float_order.specs.Interval.{In}
 use Rattle.float_order.proofs.Intervals.{in-finite, in-wider, in-self, in-add, in-sub, in-mul-up, in-mul-down, in-div}

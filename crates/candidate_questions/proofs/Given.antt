@@ -12,7 +12,8 @@ use Rattle.passes.specs.Passes.{scaleFits}
 use Rattle.star_slice.specs.declared.StarIndex.{StarIndex}
 use Rattle.star_slice.specs.Stars.{starSound}
 use Rattle.star_slice.proofs.Sound.{sound-star}
-use Rattle.star_directions.specs.Directions.{noStar, StarsHeld}
+use Rattle.star_directions.specs.Directions.{noStar}
+use Rattle.star_directions.specs.Held.{StarsHeld}
 use Rattle.candidates.specs.declared.Candidate.{Candidate}
 use Rattle.candidate_questions.specs.Questions.{placesRise, candidateFits, fourSound}
 

@@ -13,7 +13,7 @@ use Rattle.tolerance.specs.declared.Tolerance.{Tolerance}
 use Rattle.star_directions.specs.Directions.{starsOf}
 use Rattle.comparisons.specs.Comparisons.{nearField, inside}
 use Rattle.candidates.specs.Tests.{measuredOf, fieldSound, testOf}
-use Rattle.star_directions.specs.Directions.{StarsHeld}
+use Rattle.star_directions.specs.Held.{StarsHeld}
 use Rattle.candidates.specs.declared.Image.{Image}
 use Rattle.candidates.specs.declared.Tested.the-variants.{Hit}
 

@@ -1,6 +1,6 @@
 // A filled slot's entry beside a combination of the image: whether it gives a candidate, and what the candidate carries.
 ghost use mathlib.Core.Path.{_≡_};
-ghost use Rattle.star_directions.specs.Directions.{StarsHeld};
+ghost use Rattle.star_directions.specs.Held.{StarsHeld};
 ghost use Rattle.candidates.specs.Tests.{testOf};
 use brightness_list::Place;
 use comparisons::inside;

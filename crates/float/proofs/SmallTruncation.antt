@@ -14,7 +14,8 @@ use lib.Ieee.Scale.{finite, round-same}
 use lib.Ieee.Exact.{HasValue}
 use lib.Ieee.Back.{round-whole, unsigned-back}
 use lib.Ieee.Positive.{den, den-pos}
-use Rattle.float_order.specs.Value.{zero32, at, number, over, under, Below}
+use Rattle.float_order.specs.Value.{zero32}
+use Rattle.float_order.proofs.Fraction.{at, number, over, under, Below}
 use Rattle.float_order.proofs.Order.{finite-number, le→below, below→le, le-through, lt-or-le, lt-not-le, not-lt, holds}
 use Rattle.float_order.proofs.Operations.{dens, nonneg-under}
 use Rattle.float_order.proofs.Rounding.{Rounds}

@@ -13,7 +13,8 @@ use lib.Ieee.Fits.{up-pos, down-pos}
 use lib.Ieee.Scale.{round-same, finite}
 use lib.Ieee.Exact.{HasValue}
 use lib.Ieee.Positive.{den, den-pos, positive, positive-finite}
-use Rattle.float_order.specs.Value.{zero32, number, over, under, one32}
+use Rattle.float_order.specs.Value.{zero32, one32}
+use Rattle.float_order.proofs.Fraction.{number, over, under}
 use Rattle.float_order.proofs.Order.{le→below, below→le, least, greatest, le-left, le-right}
 use Rattle.float_order.proofs.Rounding.{Rounds, rounds-number, rounds-scale, rounds-same}
 use Rattle.float_order.proofs.Operations.{add-rounds, sub-rounds, mul-rounds-up, div-rounds, div-mono, mul-mono, nonneg-under, over-pos, dens}

@@ -9,7 +9,8 @@ use lib.Dec.{T}
 use lib.Ieee.{Float, nan, inf, fin, Format, binary32, binary64, add, sub, mul, div, le, neg, fits}
 use lib.Ieee.Scale.{finite}
 use lib.Ieee.Positive.{den, den-pos, positive, positive-finite, between}
-use Rattle.float_order.specs.Value.{zero32, over, under}
+use Rattle.float_order.specs.Value.{zero32}
+use Rattle.float_order.proofs.Fraction.{over, under}
 use Rattle.float_order.proofs.Order.{le→below, below→le, le-left, le-neg, le-through, le-same, finite-number}
 use Rattle.float_order.proofs.Rounding.{Rounds, rounds-mono, rounds-same}
 use Rattle.float_order.proofs.Operations.{mul-rounds, div-rounds, add-mono, sub-mono, nonneg-under, over-pos, dens}

@@ -12,7 +12,8 @@ use lib.Ieee.{Float, nan, inf, fin, up, down, lt, eq, le, neg, isNan}
 use lib.Ieee.Fits.{and-l, and-r, and-i, eq→eqb}
 use lib.Ieee.Scale.{finite}
 use lib.Ieee.Positive.{den, den-pos}
-use Rattle.float_order.specs.Value.{zero32, over, under, Below, Strictly, number}
+use Rattle.float_order.specs.Value.{zero32}
+use Rattle.float_order.proofs.Fraction.{over, under, Below, Strictly, number}
 
 pub number-is : (x : Float) → T (not (isNan x)) → T (number x)
 unfolding isNan

@@ -11,7 +11,8 @@ use lib.Dec.{T}
 use lib.Ieee.{Float, nan, inf, fin, up, down, le, lt, toUnsigned}
 use lib.Ieee.Fits.{down-pos}
 use lib.Ieee.Nearest as Nearest
-use Rattle.float_order.specs.Value.{zero32, number, at}
+use Rattle.float_order.specs.Value.{zero32}
+use Rattle.float_order.proofs.Fraction.{number, at}
 use Rattle.float_order.proofs.Order.{le→below, below→le, lt→le, le-or-lt, le-same}
 use Rattle.float_order.proofs.Rounding.{no-product}
 use Rattle.float_order.specs.Choice.{larger, smaller}

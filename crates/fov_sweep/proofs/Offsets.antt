@@ -11,7 +11,8 @@ use Rattle.float_order.specs.Choice.{smaller}
 use Rattle.float_order.proofs.Order.{holds, lt-not-le}
 use Rattle.tolerance.specs.declared.Tolerance.{Tolerance}
 use Rattle.tolerance.specs.declared.Tolerance.the-variants.{Given, Absent}
-use Rattle.fov_sweep.specs.Sweep.{pairAt, pairsFrom, reachOf, besideOf, sweepOf}
+use Rattle.fov_sweep.specs.Sweep.{pairAt, pairsFrom, besideOf, sweepOf}
+use Rattle.fov_sweep.specs.Reach.{reachOf}
 use Rattle.fov_sweep.specs.Claims.{MoreOffsets}
 
 -- an offset gives 1 or 2 values

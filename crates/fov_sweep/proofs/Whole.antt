@@ -11,7 +11,8 @@ use lib.Ieee.Scale.{finite}
 use Rattle.float_order.specs.Value.{zero32, pi32}
 use Rattle.tolerance.specs.Tolerances.{optionFits}
 use Rattle.tolerance.specs.declared.Tolerance.{Tolerance}
-use Rattle.fov_sweep.specs.Sweep.{pairsFrom, reachOf, sweepOf, sweepFits, listFits, sweptOf, laterOf}
+use Rattle.fov_sweep.specs.Sweep.{pairsFrom, sweepOf, sweepFits, listFits, sweptOf, laterOf}
+use Rattle.fov_sweep.specs.Reach.{reachOf}
 use Rattle.fov_sweep.proofs.Offsets.{beside-reach}
 use Rattle.fov_sweep.specs.declared.Swept.the-variants.{Values, Refused}
 

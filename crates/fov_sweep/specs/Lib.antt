@@ -1,3 +1,4 @@
 pub mod Sweep
 pub mod Answers
 pub mod Claims
+pub mod Reach

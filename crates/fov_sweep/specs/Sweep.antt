@@ -35,11 +35,6 @@ pairsFrom (suc k) estimate reach step offset =
     ++ cond (le (add binary32 offset step) offset) [] (pairsFrom k estimate reach step (add binary32 offset step)))
     []
 
--- the error cut to pi; an absent one, and one not above 0, reaches no offset
-abbrev pub reachOf : Tolerance → Float
-reachOf (Given x) = cond (lt zero32 x) (smaller x pi32) zero32
-reachOf Absent = zero32
-
 -- what the estimate is followed by: nothing where the error is absent or not above 0. The first offset is the step.
 abbrev pub besideOf : ℕ → Float → Tolerance → Float → List Float
 besideOf k estimate (Given x) step = cond (lt zero32 x) (pairsFrom k estimate (smaller x pi32) step step) []

@@ -3,7 +3,8 @@ ghost use mathlib.Core.Path.{_≡_};
 ghost use mathlib.Core.List.{_∷_, _++_};
 ghost use Prim.Native.Nat.{_+_, _≤_, min};
 ghost use lib.ListN.{length, take, drop};
-ghost use Rattle.fov_sweep.specs.Sweep.{sweepFits, reachOf, pairAt, pairsFrom, sweptOf, laterOf};
+ghost use Rattle.fov_sweep.specs.Sweep.{sweepFits, pairAt, pairsFrom, sweptOf, laterOf};
+ghost use Rattle.fov_sweep.specs.Reach.{reachOf};
 ghost use Rattle.fov_sweep.specs.Answers.{sweptSays, sweeping};
 use tolerance::Tolerance;
 

@@ -13,7 +13,8 @@ use Rattle.float_order.proofs.Order.{lt-or-le}
 use Rattle.key_list.specs.Keys.{apart, far, keysOf}
 use Rattle.key_list.specs.Listed.{Has, here, there, Listed, Before, Precedes, Ordered, ordered, ordered-none}
 use Rattle.key_list.proofs.Unique.{keys-unique}
-use Rattle.key_codes.specs.Codes.{keyOfCode, codeOf, has, keysOfCodes, Pairs}
+use Rattle.key_codes.specs.Codes.{keyOfCode, codeOf, has, Pairs}
+use Rattle.key_codes.proofs.CodeKeys.{keysOfCodes}
 use Rattle.key_codes.specs.Order.{orderOf}
 use Rattle.key_codes.specs.Valid.{validOf}
 use Rattle.key_codes.proofs.Sets.{at, Good, valid-good, good-valid}

@@ -12,7 +12,7 @@ use lib.Ieee.Exact.{HasValue}
 use lib.Ieee.Order.{le-of-values}
 use lib.Ieee.Back.{round-whole}
 use mir.Val.{boolByte}
-use Rattle.float_order.specs.Value.{at}
+use Rattle.float_order.proofs.Fraction.{at}
 use Rattle.float_order.specs.Choice.{smaller}
 use Rattle.float_order.specs.KeyPart.{bins32, partOf, lowOf, highOf}
 use Rattle.float_order.specs.Ratios.{Ratio}

@@ -1,3 +1,4 @@
+pub mod CodeKeys
 pub mod Sets
 pub mod Around
 pub mod ByCodes

@@ -10,7 +10,8 @@ use lib.ListN.{length, take, getD, set, length-append, length-set}
 use lib.Seq.{take-suc-set, take-set-le, getD-take, length-take-le}
 use Rattle.key_hash.specs.Key.{hashOf}
 use Rattle.pattern_keys.specs.Steps.{Hashed}
-use Rattle.key_codes.specs.Codes.{keyOfCode, has, keysOfCodes, chosen}
+use Rattle.key_codes.specs.Codes.{keyOfCode, has, chosen}
+use Rattle.key_codes.proofs.CodeKeys.{keysOfCodes}
 use Rattle.key_codes.specs.Order.{unpack}
 use Rattle.key_codes.specs.Steps.{Put, Sums}
 use Rattle.key_codes.proofs.Around.{rank, rising, step}

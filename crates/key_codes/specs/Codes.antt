@@ -21,11 +21,6 @@ codeOf c lo =
 abbrev pub has : ℕ → ℕ → Bool
 has v x = eqb (v / 2 ^ x % 2) 1
 
--- of the codes of l those in v: the key of each
-unfoldable pub keysOfCodes : List ℕ → ℕ → List ℕ → List (List ℕ)
-keysOfCodes lo v [] = []
-keysOfCodes lo v (x ∷ l) = cond (has v x) (keyOfCode lo x ∷ keysOfCodes lo v l) (keysOfCodes lo v l)
-
 -- of the codes of l those in v: what the array has for each
 unfoldable pub chosen : List ℕ → ℕ → List ℕ → List ℕ
 chosen a v [] = []

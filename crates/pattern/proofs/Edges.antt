@@ -29,7 +29,8 @@ use Rattle.float_order.proofs.Truncation.{smaller-reaches, smaller-right}
 use Rattle.float_order.proofs.KeyParts.{ratios-rise-in}
 use Rattle.float_order.proofs.Intervals.{in-finite, in-wider, in-add, in-sub, in-mul-up, in-square, mul-nonneg}
 use Rattle.float_order.proofs.Risings.{rising-at, between-at}
-use Rattle.pattern.specs.Sort.{sorted, Each, each-none, each, Chained, chained-none, chained-one, chained}
+use Rattle.pattern.specs.Sort.{sorted, Chained, chained-none, chained-one, chained}
+use Rattle.pattern.proofs.Sorting.{Each, each-none, each}
 use Rattle.pattern.specs.Edges.{nought, one, squared, squaredDistance, distance, angleOf, angle, angles, edgesOf, shares, noughts, ratiosOf}
 use Rattle.pattern.specs.Directions.{Small, Unit, Direction}
 use Rattle.pattern.specs.Claims.{EdgesRise, EdgesPermuted, EdgeRatiosRise, DirectionsRatios, UnitDirectionsSuffice}

@@ -17,8 +17,7 @@ use Rattle.undivided_run.specs.Good.{Good, goesOn, begun}
 use Rattle.undivided_run.proofs.Eights.{eight-true}
 use Rattle.undivided_run.proofs.Turns.{begun-good, search-zero, search-run}
 use Rattle.search_feed.specs.Data.{Data}
-use Rattle.search_feed.specs.Feed.{feed}
-use Rattle.search_feed.specs.Look.{noCandidate}
+use Rattle.search_feed.specs.Feed.{feed, noCandidate}
 use Rattle.search_desk.specs.Desk.{PassDesk, FourDesk}
 use Rattle.search_desk.specs.declared.Held.{Held}
 use Rattle.search_feed.proofs.Limits.{every-four-keyed, within-limits}

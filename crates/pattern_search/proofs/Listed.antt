@@ -13,7 +13,7 @@ use Rattle.passes.specs.Passes.{passesFit}
 use Rattle.star_slice.specs.Ask.{ask}
 use Rattle.star_slice.specs.Stars.{starsFit}
 use Rattle.table_blocks.specs.Blocks.{tableFits}
-use Rattle.search_feed.specs.Claims.{settingsOk}
+use Rattle.search_feed.specs.Data.{settingsOk}
 use Rattle.opening.proofs.Passed.{passed}
 use Rattle.undivided_run.specs.declared.State.{State}
 use Rattle.undivided_run.specs.declared.Status.{Status}

@@ -31,8 +31,9 @@ use Rattle.undivided_run.specs.Good.{goesOn}
 use Rattle.undivided_run.proofs.Turns.{good-after, good-room, turn-ends, turn-used, turn-refused, turn-hit, turn-passed}
 use Rattle.search_feed.specs.Data.{Data}
 use Rattle.search_feed.specs.Image.{keptPlaces, placeAt, passOf}
-use Rattle.search_feed.specs.Feed.{feed, entryAt, slotAt, testedAt, ifHit, candidateOf, placesOf, hashOfRead}
-use Rattle.search_feed.specs.Look.{noCandidate, blank, placesIn, lookedOf, entryLook, lookIn, lookAt}
+use Rattle.search_feed.specs.Feed.{feed, entryAt, slotAt, testedAt, ifHit, candidateOf, placesOf, hashOfRead, noCandidate}
+use Rattle.search_feed.specs.Look.{blank, placesIn, lookedOf, entryLook, lookIn}
+use Rattle.search_feed.proofs.Looks.{lookAt}
 use Rattle.search_desk.specs.Desk.{PassDesk, FourDesk, ForPass, ForFour}
 use Rattle.search_feed.specs.Claims.{Asked5}
 use Rattle.search_desk.specs.declared.Held.{Held}

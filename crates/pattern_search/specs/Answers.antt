@@ -6,8 +6,7 @@ use Rattle.undivided_run.specs.declared.State.{State}
 use Rattle.undivided_run.specs.Calls.{Answer, candidate, used, over, refused}
 use Rattle.undivided_run.specs.Step.{Lent}
 use Rattle.search_feed.specs.Data.{Data}
-use Rattle.search_feed.specs.Feed.{feed}
-use Rattle.search_feed.specs.Look.{noCandidate}
+use Rattle.search_feed.specs.Feed.{feed, noCandidate}
 use Rattle.search_questions.specs.Questions.{firstNo}
 use Rattle.pattern_search.specs.declared.Searched.{Searched}
 use Rattle.pattern_search.specs.declared.Answer.{Answer as Said}

@@ -14,10 +14,9 @@ use Rattle.undivided_run.specs.declared.Next.the-variants.{Goes as goes}
 use Rattle.undivided_run.specs.Step.{settle, bump}
 use Rattle.undivided_run.specs.Good.{Good, goesOn}
 use Rattle.search_feed.specs.Data.{Data}
-use Rattle.search_feed.specs.Feed.{feed}
+use Rattle.search_feed.specs.Feed.{feed, noCandidate}
 use Rattle.search_desk.specs.Desk.{PassDesk, FourDesk}
 use Rattle.search_feed.specs.Claims.{Asked5}
-use Rattle.search_feed.specs.Look.{noCandidate}
 use Rattle.search_desk.specs.declared.Held.{Held}
 use Rattle.search_feed.specs.declared.Seen.{Seen}
 use Rattle.search_feed.specs.declared.Seen.the-variants.{Empty, Unsound, Passed, Found}

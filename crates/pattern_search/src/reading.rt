@@ -2,7 +2,7 @@
 ghost use mathlib.Core.Path.{_≡_};
 ghost use Prim.Native.Nat.{_+_, _-_, _≤_, _<_};
 ghost use Rattle.search_feed.specs.Data.{frameOf, dataOf};
-ghost use Rattle.search_feed.specs.Look.{noCandidate};
+ghost use Rattle.search_feed.specs.Feed.{noCandidate};
 ghost use Rattle.search_desk.specs.Desk.{ForPass, ForFour};
 ghost use Rattle.chains.specs.Glances.{SoundBelow};
 ghost use Rattle.pattern_search.specs.Turns.{stopping, goingOn, refusesOf, sawEntry, toldOf, passedOf, Ready, Turned};

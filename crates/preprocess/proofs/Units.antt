@@ -9,7 +9,8 @@ use lib.Dec.{T}
 use lib.ListN.{getD}
 use lib.Ieee.{Float, nan, fin, binary32, ofBits, odd, add, mul, div, le, fits}
 use lib.Ieee.Positive.{positive, positive-finite, den, den-pos, between}
-use Rattle.float_order.specs.Value.{zero32, one32, over, under}
+use Rattle.float_order.specs.Value.{zero32, one32}
+use Rattle.float_order.proofs.Fraction.{over, under}
 use Rattle.float_order.specs.Interval.{In}
 use Rattle.float_order.proofs.Order.{le→below, le-through, lt→le}
 use Rattle.float_order.proofs.Operations.{mul-rounds-up, div-rounds, nonneg-under, over-pos, dens}

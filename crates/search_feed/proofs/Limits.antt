@@ -12,11 +12,11 @@ use Rattle.tolerance.proofs.Settings.{settings-fitting}
 use Rattle.pattern_catalog.proofs.Slots.{fits-few}
 use Rattle.float_order.specs.KeyPart.{NarrowTolerance}
 use Rattle.pattern_keys.proofs.Ranges.{keys-count}
-use Rattle.search_feed.specs.Data.{Frame}
+use Rattle.search_feed.specs.Data.{Frame, settingsOk}
 use Rattle.search_feed.specs.Image.{toleranceIn, keysIn, keptPlaces, imageAt}
 use Rattle.search_feed.specs.Feed.{feed}
 use Rattle.search_feed.specs.declared.SearchConfig.{SearchConfig}
-use Rattle.search_feed.specs.Claims.{settingsOk, Asked5, EveryFourKeyed, WithinLimits}
+use Rattle.search_feed.specs.Claims.{Asked5, EveryFourKeyed, WithinLimits}
 use Rattle.search_feed.proofs.Spots.{kept-few, image-ratios}
 
 abbrev pub fitting : (c : SearchConfig) → settingsOk c ≡ true → Fitting (c .bins) (c .checking) (c .error) (c .radius) (c .matching) (c .fov)

@@ -22,11 +22,20 @@ use Rattle.pattern_catalog.proofs.Slots.{in-place}
 use Rattle.candidates.specs.Tests.{testOf}
 use Rattle.candidates.specs.declared.Image.{Image}
 use Rattle.candidates.specs.declared.Tested.{Tested}
-use Rattle.search_feed.specs.Image.{toleranceIn}
+use Rattle.undivided_run.specs.declared.Position.{Position}
+use Rattle.search_feed.specs.Data.{Data}
+use Rattle.search_feed.specs.Image.{toleranceIn, passOf, imageAt}
+use Rattle.search_feed.specs.Feed.{placesOf, hashOfRead, slotAt}
 use Rattle.search_feed.specs.Look.{blank, lookedOf, entryLook, lookIn}
 use Rattle.search_feed.specs.declared.SearchConfig.{SearchConfig}
 use Rattle.search_feed.specs.declared.Sight.{Sight}
 use Rattle.search_feed.specs.declared.Seen.the-variants.{Empty, Unsound}
+
+-- the read at a position of a search
+abbrev pub lookAt : Data → Position → Sight
+lookAt D r =
+    lookIn (D .words) (D .packed) (slotAt D r) (hashOfRead (D .frame) r) (placesOf (D .frame) (r .pass) (r .four)) (r .pass)
+    (imageAt (D .frame) (r .pass) (r .four)) (D .frame .config) (passOf (D .frame) (r .pass) .field) (D .stars)
 
 -- ---- the slot of a probe
 pub home-below : (hash slots : ℕ) → 0 < slots → homeOf hash slots < slots

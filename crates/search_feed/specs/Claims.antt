@@ -1,21 +1,15 @@
 -- What demand 3 rests on, as statements; proofs/ has a proof of each under the name given beside it. Definitions only.
 use mathlib.Core.Path.{_≡_}
-use mathlib.Core.Bool.{Bool, true}
+use mathlib.Core.Bool.{true}
 use mathlib.Core.Option.{none}
 use Rattle.preprocess.specs.Questions.{centroidsFit, coordinatesFit}
 use Rattle.brightness_list.specs.Order.{orderFits}
-use Rattle.tolerance.specs.Tolerances.{settingsFit}
-use Rattle.search_feed.specs.declared.SearchConfig.{SearchConfig}
 use Rattle.passes.specs.Passes.{passesFit}
 use Rattle.table_blocks.specs.Blocks.{tableFits}
 use Rattle.opening.specs.Opening.{opening}
 use Rattle.undivided_run.specs.Exists.{Keyed, Within, Opened}
-use Rattle.search_feed.specs.Data.{Frame, Data}
+use Rattle.search_feed.specs.Data.{Frame, Data, settingsOk}
 use Rattle.search_feed.specs.Feed.{feed}
-
--- question 4 of the settings
-abbrev pub settingsOk : SearchConfig → Bool
-settingsOk c = settingsFit (c .bins) (c .checking) (c .error) (c .radius) (c .matching) (c .fov)
 
 -- questions 1 to 5 of what is lent
 pub record Asked5 (F : Frame) : Type 0 where

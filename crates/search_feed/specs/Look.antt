@@ -1,44 +1,29 @@
 -- What one read sees, as the code has it. Definitions only.
 use Prim.Native.Nat.{ℕ}
-use mathlib.Core.Bool.{cond, false}
+use mathlib.Core.Bool.{cond}
 use mathlib.Core.List.{List, [], _∷_}
-use lib.IntN.{pos}
 use lib.ListN.{getD}
-use lib.Ieee.{Float, fin}
+use lib.Ieee.{Float}
 use Rattle.combinations.specs.declared.Four.{Four}
 use Rattle.brightness_list.specs.declared.Place.{Place}
 use Rattle.key_hash.specs.Key.{markOf}
 use Rattle.star_slice.specs.declared.StarIndex.{StarIndex}
 use Rattle.table_blocks.specs.Blocks.{filled, place}
-use Rattle.pattern_entry.specs.Entry.{star, bytesAt, entryRead}
+use Rattle.pattern_entry.specs.Entry.{bytesAt, entryRead}
 use Rattle.sound_entries.specs.Sound.{entrySound}
 use Rattle.comparisons.specs.Comparisons.{rebuildOf}
 use Rattle.candidates.specs.Tests.{testOf}
 use Rattle.candidates.specs.declared.Image.{Image}
-use Rattle.candidates.specs.declared.Candidate.{Candidate}
 use Rattle.candidates.specs.declared.Tested.{Tested}
 use Rattle.candidates.specs.declared.Tested.the-variants.{Over, Hit}
-use Rattle.undivided_run.specs.declared.Position.{Position}
-use Rattle.search_feed.specs.Data.{Data}
-use Rattle.search_feed.specs.Image.{toleranceIn, passOf, imageAt}
-use Rattle.search_feed.specs.Feed.{placeOf, placesOf, hashOfRead, slotAt}
+use Rattle.search_feed.specs.Image.{toleranceIn}
+use Rattle.search_feed.specs.Feed.{placeOf, noCandidate}
 use Rattle.search_feed.specs.declared.SearchConfig.{SearchConfig}
 use Rattle.search_feed.specs.declared.Sight.{Sight}
 use Rattle.search_feed.specs.declared.Seen.{Seen}
 use Rattle.search_feed.specs.declared.Seen.the-variants.{Empty, Unsound, Passed, Found}
 
--- the candidate where none is given: all zero
-unfoldable pub noCandidate : Candidate
-noCandidate =
-    record {
-      pass = 0;
-      places = placeOf 0 ∷ placeOf 0 ∷ placeOf 0 ∷ placeOf 0 ∷ [];
-      slot = 0;
-      stars = star 0 ∷ star 0 ∷ star 0 ∷ star 0 ∷ [];
-      field = fin false 0 (pos 0);
-      rebuild = false;
-    }
-
+-- what is seen, without a candidate
 abbrev pub blank : Seen → Sight
 blank s = record { seen = s; candidate = noCandidate }
 
@@ -63,9 +48,3 @@ entryLook e slot hash places pass image c field stars =
 unfoldable pub lookIn : List ℕ → List ℕ → ℕ → ℕ → List Place → ℕ → Image → SearchConfig → Float → List Float → Sight
 lookIn words packed slot hash places pass image c field stars =
     cond (filled words slot) (entryLook (bytesAt packed (place words slot)) slot hash places pass image c field stars) (blank Empty)
-
--- the read at a position of a search
-abbrev pub lookAt : Data → Position → Sight
-lookAt D r =
-    lookIn (D .words) (D .packed) (slotAt D r) (hashOfRead (D .frame) r) (placesOf (D .frame) (r .pass) (r .four)) (r .pass)
-    (imageAt (D .frame) (r .pass) (r .four)) (D .frame .config) (passOf (D .frame) (r .pass) .field) (D .stars)

@@ -12,8 +12,8 @@ use Rattle.passes.specs.Passes.{passesFit}
 use Rattle.star_slice.specs.Ask.{ask}
 use Rattle.table_blocks.specs.Blocks.{tableFits}
 use Rattle.star_slice.specs.Stars.{starsFit}
-use Rattle.search_feed.specs.Data.{Frame, frameOf}
-use Rattle.search_feed.specs.Claims.{Asked5, settingsOk}
+use Rattle.search_feed.specs.Data.{Frame, frameOf, settingsOk}
+use Rattle.search_feed.specs.Claims.{Asked5}
 use Rattle.search_feed.specs.declared.SearchConfig.{SearchConfig}
 use Rattle.search_questions.specs.Questions.{firstSeven}
 

@@ -12,9 +12,8 @@ use Rattle.star_slice.specs.Stars.{starsFit}
 use Rattle.undivided_run.specs.declared.State.{State}
 use Rattle.undivided_run.specs.Eight.{eightOk}
 use Rattle.undivided_run.specs.Undivided.{cases}
-use Rattle.search_feed.specs.Data.{Frame, Data}
+use Rattle.search_feed.specs.Data.{Frame, Data, settingsOk}
 use Rattle.search_feed.specs.Feed.{feed}
-use Rattle.search_feed.specs.Claims.{settingsOk}
 use Rattle.search_questions.specs.declared.Asked.{Asked}
 use Rattle.search_questions.specs.declared.Asked.the-variants.{Clear, No}
 

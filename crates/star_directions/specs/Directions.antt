@@ -1,7 +1,7 @@
 -- The directions of an entry's four stars. Definitions only.
-use Prim.Native.Nat.{_+_, _*_, _<_}
+use Prim.Native.Nat.{_+_, _*_}
 use mathlib.Core.List.{List, [], _∷_}
-use lib.ListN.{length, getD}
+use lib.ListN.{getD}
 use lib.Ieee.{Float, nan}
 use Rattle.star_slice.specs.declared.StarIndex.{StarIndex}
 
@@ -17,10 +17,3 @@ noStar = record { 0 = 0 }
 unfoldable pub starsOf : List Float → List StarIndex → List (List Float)
 starsOf stars four =
     starOf stars (getD four 0 noStar) ∷ starOf stars (getD four 1 noStar) ∷ starOf stars (getD four 2 noStar) ∷ starOf stars (getD four 3 noStar) ∷ []
-
--- what is asked of the four: each lies inside the star slice
-pub record StarsHeld (stars : List Float) (four : List StarIndex) : Type 0 where
-  pub first : getD four 0 noStar .0 * 3 + 2 < length stars
-  pub second : getD four 1 noStar .0 * 3 + 2 < length stars
-  pub third : getD four 2 noStar .0 * 3 + 2 < length stars
-  pub fourth : getD four 3 noStar .0 * 3 + 2 < length stars

@@ -2,7 +2,8 @@
 ghost use mathlib.Core.Path.{_≡_};
 ghost use Prim.Native.Nat.{_+_, _*_, _<_};
 ghost use lib.ListN.{length};
-ghost use Rattle.star_directions.specs.Directions.{starOf, starsOf, StarsHeld};
+ghost use Rattle.star_directions.specs.Directions.{starOf, starsOf};
+ghost use Rattle.star_directions.specs.Held.{StarsHeld};
 use star_slice::StarIndex;
 
 // The direction of a star.

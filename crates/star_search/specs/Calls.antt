@@ -7,7 +7,7 @@ use Rattle.candidates.specs.declared.Candidate.{Candidate}
 use Rattle.undivided_run.specs.Calls.{Answer, candidate, used, over, refused}
 use Rattle.undivided_run.specs.Step.{start}
 use Rattle.search_feed.specs.Data.{Data, frameOf, dataOf}
-use Rattle.search_feed.specs.Look.{noCandidate}
+use Rattle.search_feed.specs.Feed.{noCandidate}
 use Rattle.pattern_search.specs.Listed.{Given, returned, answersOf, replies, lastState, AllSame, Opens, onRun}
 use Rattle.numbers_received.specs.Received.{configOf, stateOf}
 use Rattle.numbers_handed.specs.Handed.{statusNumber, candidateNumbers, answerOf}

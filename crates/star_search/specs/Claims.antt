@@ -10,9 +10,8 @@ use lib.Ieee.{Float}
 use Rattle.undivided_run.specs.declared.State.{State}
 use Rattle.undivided_run.specs.Eight.{eightOk}
 use Rattle.undivided_run.specs.Step.{start}
-use Rattle.search_feed.specs.Data.{Data}
+use Rattle.search_feed.specs.Data.{Data, settingsOk}
 use Rattle.search_feed.specs.Feed.{feed}
-use Rattle.search_feed.specs.Claims.{settingsOk}
 use Rattle.pattern_catalog.specs.Answers.{Answer}
 use Rattle.pattern_catalog.specs.SlotRead.{partOf}
 use Rattle.opening.specs.Opening.{opening}

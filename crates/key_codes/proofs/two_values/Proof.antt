@@ -1,7 +1,7 @@
 use Prim.Native.Nat.{ℕ}
 use mathlib.Core.Path.{_≡_, ap₂, _∙_}
 use Rattle.key_list.specs.Keys.{keysOf}
-use Rattle.key_codes.specs.Codes.{keysOfCodes}
+use Rattle.key_codes.proofs.CodeKeys.{keysOfCodes}
 use Rattle.key_codes.specs.Order.{orderOf}
 use Rattle.key_codes.proofs.Around.{order-rises}
 use Rattle.key_codes.proofs.ByCodes.{keys-by-codes}

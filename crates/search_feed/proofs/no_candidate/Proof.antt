@@ -1,6 +1,6 @@
 use mathlib.Core.Path.{refl}
 use lib.Ieee.{ofBits}
-use Rattle.search_feed.specs.Look.{noCandidate}
+use Rattle.search_feed.specs.Feed.{noCandidate}
 use Rattle.search_feed.proofs.no_candidate.Statement.{statement}
 use Rattle.search_feed.proofs.no_candidate.Tie as tie
 

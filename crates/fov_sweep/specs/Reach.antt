@@ -1,0 +1,12 @@
+-- How far the offsets of a sweep reach: what the code works out once, before the list. Definitions only.
+use mathlib.Core.Bool.{cond}
+use lib.Ieee.{Float, lt}
+use Rattle.float_order.specs.Value.{zero32, pi32}
+use Rattle.float_order.specs.Choice.{smaller}
+use Rattle.tolerance.specs.declared.Tolerance.{Tolerance}
+use Rattle.tolerance.specs.declared.Tolerance.the-variants.{Given, Absent}
+
+-- the error cut to pi; an absent one, and one not above 0, reaches no offset
+abbrev pub reachOf : Tolerance → Float
+reachOf (Given x) = cond (lt zero32 x) (smaller x pi32) zero32
+reachOf Absent = zero32
