@@ -1,23 +1,20 @@
 -- The laws of `arcOf` that callers use, for h from 0 to 1. None shows the formula.
 --   arc-in        the arc lies from 0 to `quarterTurn`, the f32 nearest to half of pi, so it is finite
---   arc-positive  the arc of what is above 0 is above 0
 --   arc-nought    the arc of 0 is 0
 --   arc-one       the arc of 1 is `quarterTurn`
 -- Assumes nothing.
-use mathlib.Core.Path.{_≡_, refl, sym, ap, _∙_, subst}
+use mathlib.Core.Path.{_≡_, refl, ap}
 use mathlib.Core.Bool.{Bool, true, false, cond}
-use lib.IntN.{pos, negsuc}
-use lib.Dec.{T, ltb}
-use lib.Ieee.{Float, nan, inf, fin, binary32, ofBits, add, sub, mul, div, le, lt, neg}
-use lib.Ieee.Scale.{finite}
-use lib.Ieee.Positive.{positive}
+use lib.IntN.{negsuc}
+use lib.Dec.{T}
+use lib.Ieee.{Float, fin, binary32, ofBits, add, sub, mul, div, le, lt}
 use Rattle.square_root.specs.Root.{rootOf}
 use Rattle.square_root.proofs.Laws.{root-not-below, root-half, root-nought}
 use Rattle.float_order.specs.Value.{zero32, one32}
 use Rattle.float_order.proofs.Fraction.{number}
-use Rattle.float_order.proofs.Order.{le-through, le-right, lt→le, not-lt, lt-le-lt}
+use Rattle.float_order.proofs.Order.{le-through, le-right, lt→le, not-lt}
 use Rattle.float_order.specs.Interval.{In}
-use Rattle.float_order.proofs.Intervals.{in-finite, in-wider, in-self, in-add, in-sub, in-mul-up, in-mul-down, in-div}
+use Rattle.float_order.proofs.Intervals.{in-wider, in-self, in-add, in-sub, in-mul-up, in-mul-down, in-div}
 use Rattle.arc.specs.Arc.{one, two, half, tiny, quarterTurn, p0, p1, p2, q1, bend, bent, halfBelow, nearOne, arcOf}
 
 abbrev quarter : Float
@@ -67,14 +64,6 @@ bent-in x z i j =
     (in-add binary32 {a = zero32} {b = half} {c = zero32} {d = fin false 1 (negsuc 3)} tt tt tt tt i
     (in-wider zero32 (fin false 1 (negsuc 3)) tt tt (in-mul-up binary32 {b = half} {d = eighth} tt tt i (bend-in z j))))
 
--- and it is at least 2 ^ -12 where x is
-bent-low : (x z : Float) → In tiny half x → In zero32 quarter z → T (le tiny (bent x z))
-unfolding ofBits add mul le
-bent-low x z i j =
-    in-wider tiny one32 tt tt
-    (in-add binary32 {a = tiny} {b = half} {c = zero32} {d = fin false 1 (negsuc 3)} tt tt tt tt i
-    (in-wider zero32 (fin false 1 (negsuc 3)) tt tt (in-mul-up binary32 {b = half} {d = eighth} tt tt (in-wider zero32 half tt tt i) (bend-in z j)))) .low
-
 -- ---- from 0.5 to 1: from 0.25 to `quarterTurn`
 half-below-in : (h : Float) → In half one32 h → In zero32 quarter (halfBelow h)
 unfolding ofBits sub mul le
@@ -103,14 +92,6 @@ square-in h i = in-wider zero32 quarter tt tt (in-mul-up binary32 {b = half} {d 
 tiny-small : T (le tiny quarterTurn)
 unfolding le ofBits
 tiny-small = tt
-
-tiny-above : T (lt zero32 tiny)
-unfolding lt ofBits
-tiny-above = tt
-
-quarter-above : T (lt zero32 quarter)
-unfolding lt
-quarter-above = tt
 
 mid : {x : Float} → In zero32 (fin false 9 (negsuc 3)) x → In zero32 quarterTurn x
 unfolding le ofBits
@@ -143,16 +124,6 @@ module _ (h : Float) (i : In zero32 one32 h) where
       (λ t. record { low = i .low; high = le-through h tiny quarterTurn (lt→le h tiny t) tiny-small })
       (λ j. mid (bent-in h (mul binary32 h h) (low-half j) (square-in h (low-half j))))
       (λ j. end (near-one-in h j))
-
-  pub arc-finite : T (finite (arcOf h))
-  unfolding ofBits
-  arc-finite = in-finite tt tt arc-in
-
-  pub arc-positive : T (lt zero32 h) → T (lt zero32 (arcOf h))
-  arc-positive t =
-      three (λ (x : Float). T (lt zero32 x)) (λ s. t)
-      (λ j. lt-le-lt zero32 tiny (bent h (mul binary32 h h)) tiny-above (bent-low h (mul binary32 h h) j (square-in h (record { low = i .low; high = j .high }))))
-      (λ j. lt-le-lt zero32 quarter (nearOne h) quarter-above (near-one-in h j .low))
 
 -- ---- single values
 pub arc-nought : arcOf zero32 ≡ zero32

@@ -19,13 +19,6 @@ module _ {A : Type 0} (P : A → Type 0) where
   all-take (suc n) [] p = tt
   all-take (suc n) (x ∷ xs) p = (p .0, all-take n xs (p .1))
 
-  all-mid : (pre : List A) (x : A) (post : List A) → All P (pre ++ x ∷ post) → P x
-  all-mid [] x post p = p .0
-  all-mid (y ∷ pre) x post p = all-mid pre x post (p .1)
-
-  pub all-in : (xs : List A) (x : A) → In x xs → All P xs → P x
-  all-in xs x m p = all-mid (m .0) x (m .1) (subst (All P) (m .2) p)
-
   pub all-each : {B : Type 0} (Q : B → Type 0) (xs : List B) (f : B → List A) → ((x : B) → Q x → All P (f x)) → All Q xs → All P (each xs f)
   unfolding each
   all-each Q [] f h q = tt

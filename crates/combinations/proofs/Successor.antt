@@ -2,18 +2,15 @@
 use mathlib.Core.Path.{_≡_, subst}
 use Prim.Native.Nat.{ℕ, suc, _+_, _-_, _*_, _≤_, _<_, max}
 use native.Mathlib.Omega.{arith}
-use mathlib.Core.Option.{none, some}
+use mathlib.Core.Option.{some}
 use borrow.Author.Tests.{le-leb, lt-leb}
 use Rattle.combinations.specs.Lists.{All, Follows}
 use Rattle.combinations.specs.Fours.{Four, Rising, fours, sum}
-use Rattle.combinations.specs.Successor.{withA, withB, withC, fromSum, fromB, fromC, firstFour, nextFour}
-use Rattle.combinations.specs.Claims.{FirstIsFirst, NextIsNext}
+use Rattle.combinations.specs.Successor.{withC, fromB, fromC, firstFour, nextFour}
+use Rattle.combinations.specs.Claims.{NextIsNext}
 use Rattle.combinations.proofs.Lists.{all-after, follows-is-first, follows-first, follows-mid}
 use Rattle.combinations.proofs.EachFour.{fours-rise, fours-all}
 use Rattle.combinations.proofs.Walk.{walks-fours}
-
-pub first-is-first : FirstIsFirst
-first-is-first n = follows-is-first (nextFour n) (fours n) (firstFour n) (walks-fours n)
 
 pub next-is-next : NextIsNext
 next-is-next n before q after e =
@@ -47,16 +44,3 @@ module _ (n : ℕ) (q : Four) (r : Rising n q) where
   pub next-past : q .d ≤ q .c + 2 → nextFour n q ≡ fromB n (sum q) (q .a) (suc (q .b))
   unfolding nextFour fromC sum
   next-past h = rw (third, lt-leb (q .a + q .b + 2 * (q .c + 1) + 1) (q .a + q .b + q .c + q .d) (omega arith))
-
--- from 4 positions on the first four is 0123; below, there is none
-pub first-from-four : (n : ℕ) → 4 ≤ n → firstFour n ≡ some (record { a = 0; b = 1; c = 2; d = 3 })
-unfolding firstFour fromSum withA withB withC
-first-from-four n h =
-    let a : max 0 (12 - 3 * n) ≡ 0 = omega arith in
-    let b : max 1 (9 - (0 + 2 * n)) ≡ 1 = omega arith in
-    let c : max 2 (7 - (1 + n)) ≡ 2 = omega arith in
-    rw (le-leb 16 (4 * n) (omega arith), a, b, c)
-
-pub first-below-four : (n : ℕ) → n < 4 → firstFour n ≡ none
-unfolding firstFour fromSum
-first-below-four n h = rw (lt-leb 16 (4 * n) (omega arith))

@@ -29,10 +29,7 @@ Fours64 = (n : ℕ) → n ≤ 64 → length (fours n) ≤ 635376
 abbrev pub WalksFours : Type 0
 WalksFours = (n : ℕ) → Follows (nextFour n) (firstFour n) (fours n)
 
--- So the first is the list's first: `first-is-first`; and the four after q is what stands after q in the list: `next-is-next`.
-abbrev pub FirstIsFirst : Type 0
-FirstIsFirst = (n : ℕ) → firstFour n ≡ firstOf (fours n)
-
+-- So the four after q is what stands after q in the list: `next-is-next`.
 abbrev pub NextIsNext : Type 0
 NextIsNext = (n : ℕ) (before : List Four) (q : Four) (after : List Four) → fours n ≡ before ++ q ∷ after → nextFour n q ≡ firstOf after
 

@@ -1,24 +1,12 @@
 -- The test of a range for at most two values, and what it says of all five. Assumes nothing.
-use Prim.Native.Nat.{ℕ, _+_, _-_, _<_}
+use Prim.Native.Nat.{ℕ, _+_}
 use mathlib.Core.Path.{_≡_, refl, sym, ap, _∙_}
 use mathlib.Core.Bool.{Bool, true, false, _&&_}
-use mathlib.Core.Logic.{inl, inr}
 use mathlib.Core.List.{List}
-use native.Mathlib.Omega.{arith}
-use borrow.Author.Tests.{le-leb, lt-leb, leb-true, eq-eqb, ne-eqb}
-use lib.Dec.{eqb}
+use borrow.Author.Tests.{leb-true}
 use lib.ListN.{getD}
-use Rattle.float_order.proofs.Order.{lt-or-le}
 use Rattle.key_codes.proofs.Sets.{never}
 use Rattle.key_codes.specs.Codes.{pairOf, twoAtMost, Two}
-
--- where the upper end is above the lower one, the difference decides
-pub pair-is : (lo hi : ℕ) → lo < hi → eqb (hi - lo) 1 ≡ pairOf lo hi
-pair-is lo hi h =
-    elim (lt-or-le (lo + 1) hi) [
-      | inl p ↦ ne-eqb (hi - lo) 1 (λ e. omega arith) ∙ sym (lt-leb hi (lo + 1) p)
-      | inr p ↦ eq-eqb (hi - lo) 1 (omega arith) ∙ sym (le-leb hi (lo + 1) p)
-    ]
 
 -- the tests one after the other
 pub no-first : (a b : Bool) → a ≡ false → false ≡ a && b

@@ -16,12 +16,12 @@ use Rattle.star_slice.specs.Stars.{starsFit}
 use Rattle.pattern_entry.specs.Entry.{bytesAt, inSection}
 use Rattle.sound_entries.specs.Sound.{entrySound}
 use Rattle.pattern_catalog.specs.Answers.{filledAt}
-use Rattle.pattern_catalog.specs.SlotRead.{slotIn, slotRead}
+use Rattle.pattern_catalog.specs.SlotRead.{slotIn}
 use Rattle.opening.specs.Opening.{indexRight, slotSound, opening}
-use Rattle.opening.specs.Claims.{PassedFilled, PassedEmpty, PassedPast, PassedNeverRefused, PassedSound}
+use Rattle.opening.specs.Claims.{PassedFilled, PassedEmpty, PassedPast, PassedNeverRefused}
 use Rattle.star_slice.proofs.Every.{every-at, both-r}
 use Rattle.pattern_entry.proofs.Bytes.{past-end}
-use Rattle.pattern_catalog.proofs.Slots.{fits-long, in-empty, in-place, read-in}
+use Rattle.pattern_catalog.proofs.Slots.{fits-long, in-empty, read-in}
 use Rattle.opening.proofs.Scan.{clear, place-is, entry-in}
 
 -- questions 6, 7, 10 and 9, one by one
@@ -109,13 +109,3 @@ passed-never-refused slots words packed stars h s l n r = by-test (filled words 
     by-test : (b : Bool) → filled words s ≡ b → ⊥
     by-test true f = let e = passed-filled slots words packed stars h s l f .found in let z : _≡_ {A = ℕ} 0 1 = cc in omega arith
     by-test false f = let e = passed-empty slots words packed stars h s l f in let z : _≡_ {A = ℕ} 0 1 = cc in omega arith
-
-pub passed-sound : PassedSound
-passed-sound slots words packed stars h s l p e =
-    let i = in-place words packed s p e in
-    ap (λ (q : ℕ). entrySound stars (bytesAt packed q)) (i .1) ∙ sound-in slots words packed stars h s l (i .0)
-
--- the read that `find_in` makes of a slot below the count is the slot read
-pub passed-reads : (slots : ℕ) (words packed : List ℕ) (stars : List Float) → opening slots words packed stars ≡ none
-    → (s : ℕ) → s < slots → slotIn words packed s ≡ slotRead slots words packed s
-passed-reads slots words packed stars h s l = read-in slots words packed s (passed slots words packed stars h .fits) l

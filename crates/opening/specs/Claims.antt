@@ -10,7 +10,7 @@ use Rattle.table_blocks.specs.Blocks.{filled, onesIn, place}
 use Rattle.pattern_entry.specs.Entry.{bytesAt}
 use Rattle.sound_entries.specs.Sound.{entrySound}
 use Rattle.pattern_catalog.specs.Answers.{filledAt, empty, refused}
-use Rattle.pattern_catalog.specs.SlotRead.{slotIn, slotRead}
+use Rattle.pattern_catalog.specs.SlotRead.{slotRead}
 use Rattle.opening.specs.Opening.{opening}
 
 -- ---- what a passed opening check gives every later read, proofs/Passed
@@ -41,8 +41,3 @@ PassedPast = (slots : ℕ) (words packed : List ℕ) (stars : List Float) → op
 abbrev pub PassedNeverRefused : Type 0
 PassedNeverRefused = (slots : ℕ) (words packed : List ℕ) (stars : List Float) → opening slots words packed stars ≡ none
     → (s : ℕ) → s < slots → (n : ℕ) → slotRead slots words packed s ≡ refused n → ⊥
-
--- Question 9 says yes to every entry that such a read finds: `passed-sound`.
-abbrev pub PassedSound : Type 0
-PassedSound = (slots : ℕ) (words packed : List ℕ) (stars : List Float) → opening slots words packed stars ≡ none
-    → (s : ℕ) → s < slots → (p : ℕ) → slotIn words packed s ≡ filledAt p → entrySound stars (bytesAt packed p) ≡ true

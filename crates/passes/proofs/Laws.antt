@@ -1,6 +1,6 @@
 -- What question 5 gives each pass. Assumes nothing.
-use mathlib.Core.Path.{_≡_, refl, sym, _∙_, subst}
-use Prim.Native.Nat.{ℕ, zero, suc, _*_, _/_, _%_, _≤_, _<_}
+use mathlib.Core.Path.{_≡_, refl, sym, subst}
+use Prim.Native.Nat.{ℕ, zero, suc, _/_, _%_, _≤_, _<_}
 use native.Mathlib.Omega.{arith}
 use mathlib.Core.Logic.{inl, inr}
 use native.Mathlib.Nat.{eq-or-lt-of-le}
@@ -9,7 +9,7 @@ use mathlib.Core.List.{List}
 use lib.Dec.{leb, eqb}
 use lib.ListN.{length}
 use lib.Ieee.{Float}
-use borrow.Author.Tests.{leb-true, eqb-true, eq-eqb, ne-eqb, le-leb, lt-leb}
+use borrow.Author.Tests.{leb-true, eq-eqb, ne-eqb, le-leb, lt-leb}
 use Rattle.passes.specs.Passes.{fieldFits, scaleFits, cosineFits, passFits, passAt, firstFit, passesFit}
 
 both : (a b : Bool) → a && b ≡ true → (a ≡ true) × (b ≡ true)

@@ -3,7 +3,6 @@
 --   edges-permuted     they are the six angles, sorted
 --   edge-ratios-rise   the five ratios of such edges rise, and each lies from 0 to 1
 --   directions-ratios  the ratios of four such directions are `Ratios`, as the keys ask
---   unit-directions    components of magnitude at most 1 are such
 -- Assumes nothing.
 use mathlib.Core.Path.{_≡_, refl}
 use Prim.Native.Nat.{ℕ, zero, suc, _<_}
@@ -32,27 +31,10 @@ use Rattle.float_order.proofs.Risings.{rising-at, between-at}
 use Rattle.pattern.specs.Sort.{sorted, Chained, chained-none, chained-one, chained}
 use Rattle.pattern.proofs.Sorting.{Each, each-none, each}
 use Rattle.pattern.specs.Edges.{nought, one, squared, squaredDistance, distance, angleOf, angle, angles, edgesOf, shares, noughts, ratiosOf}
-use Rattle.pattern.specs.Directions.{Small, Unit, Direction}
-use Rattle.pattern.specs.Claims.{EdgesRise, EdgesPermuted, EdgeRatiosRise, DirectionsRatios, UnitDirectionsSuffice}
+use Rattle.pattern.specs.Directions.{Small, Direction}
+use Rattle.pattern.specs.Claims.{EdgesRise, EdgesPermuted, EdgeRatiosRise, DirectionsRatios}
 use Rattle.pattern.proofs.Insertion.{sorted-length}
 use Rattle.pattern.proofs.Sorting.{Comparable, Ready, ready-none, ready, each-map, sorted-perm, sorted-each, sorted-chained}
-
--- ---- components of magnitude at most 1
-unit-small : (x : Float) → Unit x → Small x
-unfolding le
-unit-small x i = in-wider (fin true 1 (pos 20)) (fin false 1 (pos 20)) tt tt i
-
-unit-direction : (a : List Float) → Direction Unit a → Direction Small a
-unit-direction a d = record { x = unit-small (getD a 0 nan) (d .x); y = unit-small (getD a 1 nan) (d .y); z = unit-small (getD a 2 nan) (d .z) }
-
-pub unit-directions : UnitDirectionsSuffice
-unit-directions v d =
-    record {
-      first = unit-direction (getD v 0 []) (d .first);
-      second = unit-direction (getD v 1 []) (d .second);
-      third = unit-direction (getD v 2 []) (d .third);
-      fourth = unit-direction (getD v 3 []) (d .fourth);
-    }
 
 -- ---- floats sorted upwards
 rising-of : {l : List Float} → Chained (λ x y. T (le x y)) l → Rising l
@@ -99,7 +81,7 @@ sum-in x y z i j k =
     (in-add binary32 {a = zero32} {b = fin false 1 (pos 43)} {c = zero32} {d = fin false 1 (pos 42)} tt tt tt tt
     (in-wider zero32 (fin false 1 (pos 43)) tt tt (in-add binary32 {a = zero32} {b = fin false 1 (pos 42)} {c = zero32} {d = fin false 1 (pos 42)} tt tt tt tt i j)) k)
 
-distance-ok : (a b : List Float) → Direction Small a → Direction Small b → T (le zero32 (distance a b)) × T (finite (distance a b))
+distance-ok : (a b : List Float) → Direction a → Direction b → T (le zero32 (distance a b)) × T (finite (distance a b))
 unfolding squaredDistance
 distance-ok a b p q =
     let g : ℕ → Float = λ i. squared (sub binary32 (getD a i nan) (getD b i nan)) in
@@ -121,7 +103,7 @@ angle-in d h p =
     in-wider zero32 pi32 tt tt
     (in-mul-up binary32 {b = fin false 1 (pos 1)} {d = quarterTurn} {x = fin false 1 (pos 1)} tt tt (record { low = tt; high = tt }) (arc-in x (half-in d h p)))
 
-between-two : (a b : List Float) → Direction Small a → Direction Small b → In zero32 pi32 (angle a b)
+between-two : (a b : List Float) → Direction a → Direction b → In zero32 pi32 (angle a b)
 between-two a b p q = let d = distance-ok a b p q in angle-in (distance a b) (d .0) (d .1)
 
 -- ---- the edges

@@ -7,11 +7,7 @@ use Rattle.float_order.specs.Value.{zero32, one32, pi32}
 use Rattle.float_order.specs.Rising.{Rising, Between}
 use Rattle.float_order.specs.Ratios.{Ratios}
 use Rattle.pattern.specs.Edges.{angles, edgesOf, ratiosOf}
-use Rattle.pattern.specs.Directions.{Directions, UnitDirections}
-
--- Directions with components of magnitude at most 1 are `Directions`: `unit-directions`.
-abbrev pub UnitDirectionsSuffice : Type 0
-UnitDirectionsSuffice = (v : List (List Float)) → UnitDirections v → Directions v
+use Rattle.pattern.specs.Directions.{Directions}
 
 -- The six edges rise, each from 0 to the f32 nearest to pi, so finite and not negative: `edges-rise`.
 abbrev pub EdgesRise : Type 0

@@ -10,7 +10,7 @@ use lib.ListN.{length}
 use Rattle.star_slice.specs.Ask.{ask}
 use Rattle.table_blocks.specs.Blocks.{blocksOf, tableFits, filled, place}
 use Rattle.pattern_entry.specs.Entry.{inSection}
-use Rattle.pattern_catalog.specs.Answers.{Answer, filledAt, empty, refused}
+use Rattle.pattern_catalog.specs.Answers.{filledAt, empty, refused}
 use Rattle.pattern_catalog.specs.Placed.{foundBy}
 use Rattle.pattern_catalog.specs.SlotRead.{slotIn, slotRead}
 use Rattle.table_blocks.specs.Places.{rankedAt}
@@ -67,16 +67,6 @@ module _ (words packed : List ℕ) (s : ℕ) where
           let q : p ≡ place words s = cc in
           let l = leb-true (place words s * 22 + 22) (length packed) k in
           (f, q, omega arith)
-
-  -- the read of a slot that exists is refused with 9 alone
-  pub in-nine : (n : ℕ) → slotIn words packed s ≡ refused n → n ≡ 9
-  unfolding slotIn
-  in-nine n h = go (filled words s) (inSection packed (place words s)) h
-    where
-      go : (c d : Bool) → ask c empty (ask d (refused 9) (filledAt (place words s))) ≡ refused n → n ≡ 9
-      go false d e = cc
-      go true false e = cc
-      go true true e = cc
 
 -- ---- the slot read
 

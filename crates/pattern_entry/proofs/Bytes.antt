@@ -1,15 +1,13 @@
 -- Laws of an entry's 22 bytes. Assumes nothing.
 use Prim.Native.Nat.{ℕ, zero, suc, _+_, _-_, _*_, _≤_, _<_}
 use mathlib.Core.Path.{_≡_, refl, sym, ap, ap₂, _∙_}
-use mathlib.Core.Bool.{true}
 use mathlib.Core.List.{List, [], _∷_}
 use native.Mathlib.Omega.{arith}
 use native.Mathlib.Nat.{add-assoc}
-use borrow.Author.Tests.{leb-true}
 use lib.ListN.{length, getD, take, drop, length-take, length-drop}
 use lib.Seq.{getD-take, getD-drop}
 use lib.Ieee.{Float}
-use Rattle.pattern_entry.specs.Entry.{bytesAt, inSection, halfAt, markOf, star}
+use Rattle.pattern_entry.specs.Entry.{bytesAt, halfAt, markOf, star}
 use Rattle.pattern_entry.specs.declared.PatternEntry.{PatternEntry}
 
 -- a byte past the end
@@ -27,10 +25,6 @@ part-is packed p = let e : p * 22 + 22 - p * 22 ≡ 22 = omega arith in ap (λ (
 pub whole-at : (packed : List ℕ) (p : ℕ) → p * 22 + 22 ≤ length packed → length (bytesAt packed p) ≡ 22
 unfolding bytesAt
 whole-at packed p h = simp (length-take, length-drop) (omega arith)
-
-pub section-whole : (packed : List ℕ) (p : ℕ) → inSection packed p ≡ true → length (bytesAt packed p) ≡ 22
-unfolding inSection
-section-whole packed p h = whole-at packed p (leb-true (p * 22 + 22) (length packed) h)
 
 -- its bytes are the section's
 pub byte-at : (packed : List ℕ) (p k : ℕ) → k < 22 → getD (bytesAt packed p) k 0 ≡ getD packed (p * 22 + k) 0

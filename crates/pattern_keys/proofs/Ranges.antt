@@ -1,13 +1,11 @@
 -- The keys of five ratios: each part has from 1 to 4 values, none above bins, and the image key is in the list, as the first. Assumes nothing.
 use mathlib.Core.Path.{_≡_, refl, sym, subst}
-use Prim.Native.Nat.{ℕ, _+_, _^_, _≤_, _<_}
-use native.Mathlib.Omega.{arith}
+use Prim.Native.Nat.{ℕ, _+_, _≤_}
 use native.Mathlib.Nat.{le-trans}
 use mathlib.Core.List.{List, []}
-use lib.IntN.{pos}
-use lib.Dec.{T, le→leb, lit≤}
+use lib.Dec.{T}
 use lib.ListN.{getD}
-use lib.Ieee.{Float, nan, binary32, inFloat}
+use lib.Ieee.{Float, nan}
 use lib.Ieee.Scale.{finite}
 use Rattle.float_order.specs.Value.{zero32, one32}
 use Rattle.float_order.specs.KeyPart.{partOf, lowOf, highOf, NarrowTolerance}
@@ -20,20 +18,10 @@ use Rattle.key_hash.proofs.Keys.{part-below, key-rises}
 use Rattle.key_list.specs.Steps.{Narrow}
 use Rattle.pattern_keys.specs.Ranges.{lowerOf, upperOf, keysFor}
 use Rattle.key_list.specs.Listed.{Has, here, there, Listed, Precedes, Ordered, ordered}
-use Rattle.pattern_keys.specs.Claims.{KeysCount, ImageListed, ImageFirst, KeyListed, ListedParts}
+use Rattle.pattern_keys.specs.Claims.{KeysCount, ImageListed, ImageFirst}
 use Rattle.key_list.proofs.Laws.{keys-length, has-some}
-use Rattle.pattern_keys.proofs.Walks.{listed-small}
-use Rattle.key_list.proofs.Exact.{keys-all, keys-only}
-use Rattle.key_list.proofs.Near.{has-at}
+use Rattle.key_list.proofs.Exact.{keys-all}
 use Rattle.key_list.proofs.Outward.{keys-ordered, none-before}
-
--- a number of bins is exact as an f32
-pub bins-exact : (B : ℕ) → B ≤ 4096 → T (inFloat binary32 (pos B))
-unfolding inFloat
-bins-exact B h = le→leb B (2 ^ 24) (le-trans h (lit≤ tt))
-
-pub small : (x y B : ℕ) → x ≡ y → y ≤ B → B ≤ 4096 → x < 65536
-small x y B e h k = omega arith
 
 module _ (r e : Float) (B : ℕ) (i : Ratio r) (t : NarrowTolerance e B) where
   R : T (finite r)
@@ -116,10 +104,3 @@ first-of {c} {k} (there x h) (ordered p o) e = absurd (none-before c x (subst (�
 pub image-first : ImageFirst
 unfolding keysFor
 image-first r e B i t = first-of (image-listed r e B i t) (keys-ordered (keyOf r B) (lowerOf r e B) (upperOf r e B)) refl
-
-pub key-listed : KeyListed
-unfolding keysFor
-key-listed r e B i h = keys-only (keyOf r B) (lowerOf r e B) (upperOf r e B) (getD (keysFor r e B) i []) (has-at (keysFor r e B) i h)
-
-pub listed-parts : ListedParts
-listed-parts r e B i t j h = listed-small (lowerOf r e B) (upperOf r e B) (getD (keysFor r e B) j []) B (key-listed r e B j h) (upper-parts r e B i t)

@@ -6,9 +6,9 @@ use lib.ListN.{length, getD}
 use lib.Ieee.{Float}
 use Rattle.float_order.specs.KeyPart.{NarrowTolerance}
 use Rattle.float_order.specs.Ratios.{Ratios}
-use Rattle.key_hash.specs.Key.{keyOf, Parts}
-use Rattle.key_list.specs.Listed.{Has, Listed}
-use Rattle.pattern_keys.specs.Ranges.{keysFor, lowerOf, upperOf}
+use Rattle.key_hash.specs.Key.{keyOf}
+use Rattle.key_list.specs.Listed.{Has}
+use Rattle.pattern_keys.specs.Ranges.{keysFor}
 
 -- At least one key, and at most 1,024: `keys-count`.
 abbrev pub KeysCount : Type 0
@@ -20,10 +20,3 @@ ImageListed = (r : List Float) (e : Float) (B : ℕ) → Ratios r → NarrowTole
 
 abbrev pub ImageFirst : Type 0
 ImageFirst = (r : List Float) (e : Float) (B : ℕ) → Ratios r → NarrowTolerance e B → getD (keysFor r e B) 0 [] ≡ keyOf r B
-
--- Each key listed has five parts in their ranges that never fall, none above bins: `key-listed`, `listed-parts`.
-abbrev pub KeyListed : Type 0
-KeyListed = (r : List Float) (e : Float) (B : ℕ) → (i : ℕ) → i < length (keysFor r e B) → Listed (lowerOf r e B) (upperOf r e B) (getD (keysFor r e B) i [])
-
-abbrev pub ListedParts : Type 0
-ListedParts = (r : List Float) (e : Float) (B : ℕ) → Ratios r → NarrowTolerance e B → (i : ℕ) → i < length (keysFor r e B) → Parts (getD (keysFor r e B) i []) B

@@ -21,11 +21,11 @@ use Rattle.preprocess.proofs.Units.{centroid-vectors}
 use Rattle.passes.specs.Passes.{scaleFits, passAt}
 use Rattle.passes.proofs.Laws.{passes-fitting}
 use Rattle.thinning.specs.Thinning.{crowded, thinned, keptOf}
-use Rattle.pattern.specs.Directions.{Small, Direction, Directions}
-use Rattle.pattern.proofs.Edges.{directions-ratios}
+use Rattle.pattern.specs.Directions.{Direction, Directions}
+use Rattle.pattern.proofs.Edges.{edges-rise, directions-ratios}
 use Rattle.search_feed.specs.Data.{Frame}
 use Rattle.search_feed.specs.Image.{spotOf, keptPlaces, placeAt, directionsOf, imageOf}
-use Rattle.search_feed.specs.Claims.{Asked5}
+use Rattle.search_feed.specs.Claims.{Asked5, KeptEdges}
 
 -- ---- kept places are places
 thinned-below : (c : Float) (spot : ℕ → List Float) (n m : ℕ) → n ≤ m → All (λ p. p < m) (thinned c spot n)
@@ -63,7 +63,7 @@ scale-of : (x : Float) → scaleFits x ≡ true → Scale x
 unfolding scaleFits ofBits
 scale-of x h = let p = both (lt zero32 x) (le x (fin false 1 (pos 4))) h in record { above = holds _ (p .0); most = holds _ (p .1) }
 
-small-of : (v : List Float) → UnitVector v → Direction Small v
+small-of : (v : List Float) → UnitVector v → Direction v
 unfolding le
 small-of v u = record { x = u .x; y = u .y; z = in-wider (fin true 1 (pos 20)) (fin false 1 (pos 20)) tt tt (u .z) }
 
@@ -72,13 +72,13 @@ unfolding imageOf
 image-ratios-of v d = directions-ratios v d
 
 module _ (F : Frame) (a : Asked5 F) (i : ℕ) (h : i < length (F .passes) / 3) where
-  spot-small : (p : ℕ) → p < length (F .order) → Direction Small (spotOf F i p)
+  spot-small : (p : ℕ) → p < length (F .order) → Direction (spotOf F i p)
   spot-small p l =
       small-of _ (centroid-vectors (F .centroids) _ (passAt (F .passes) i .scale) (a .two)
       (places-have-centroids (F .order) (F .centroids) (record { 0 = p }) (a .three) l)
       (scale-of _ (passes-fitting (F .passes) (a .five) .scales i h)))
 
-  kept-small : (x : ℕ) → x < length (keptPlaces F i) → Direction Small (spotOf F i (placeAt F i x))
+  kept-small : (x : ℕ) → x < length (keptPlaces F i) → Direction (spotOf F i (placeAt F i x))
   kept-small x l = spot-small (placeAt F i x) (place-below F i x l)
 
   pub directions-small : (q : Four) → Rising (length (keptPlaces F i)) q → Directions (directionsOf F i q)
@@ -93,3 +93,6 @@ module _ (F : Frame) (a : Asked5 F) (i : ℕ) (h : i < length (F .passes) / 3) w
 
   pub image-ratios : (q : Four) → Rising (length (keptPlaces F i)) q → Ratios (imageOf (directionsOf F i q) .ratios)
   image-ratios q r = image-ratios-of (directionsOf F i q) (directions-small q r)
+
+pub kept-edges : KeptEdges
+kept-edges F a i h q r = let e = edges-rise (directionsOf F i q) (directions-small F a i h q r) in (e .0, e .1, image-ratios F a i h q r)

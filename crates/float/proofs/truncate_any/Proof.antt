@@ -1,8 +1,8 @@
 use Rattle.float.proofs.Truncation.{low, high, within}
 use native.Mathlib.Omega.{arith}
-use lib.Ieee.{ofBits, neg, toUnsigned}
+use lib.Ieee.{ofBits, neg}
 use lib.Dec.{T}
-use mathlib.Core.Path.{sym, subst, _∙_}
+use mathlib.Core.Path.{sym, subst}
 use borrow.Author.Needs.{needs}
 use Rattle.float.proofs.truncate_any.Statement.{statement}
 use Rattle.float.proofs.truncate_any.Tie as tie

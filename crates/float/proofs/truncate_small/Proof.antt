@@ -1,7 +1,5 @@
-use Prim.Native.Nat.{_+_, _≤_}
-use mathlib.Core.Path.{_≡_, sym, ap, _∙_}
 use native.Mathlib.Omega.{arith}
-use lib.Ieee.{ofBits, toUnsigned}
+use lib.Ieee.{ofBits}
 use Rattle.float.proofs.SmallTruncation.{near-whole, one-more, no-more}
 use Rattle.float.proofs.truncate_small.Statement.{statement}
 use Rattle.float.proofs.truncate_small.Tie as tie

@@ -1,8 +1,7 @@
-use mathlib.Core.Path.{_≡_, sym, ap, ap₂, _∙_}
+use mathlib.Core.Path.{sym, ap, ap₂, _∙_}
 use Prim.Native.Nat.{_+_}
 use native.Mathlib.Omega.{arith}
 use borrow.Author.Needs.{needs}
-use Rattle.table_blocks.specs.Blocks.{place}
 use Rattle.table_blocks.specs.declared.Ranked.{Ranked}
 use Rattle.table_blocks.proofs.Places.{rank-out, rank-in, near-place}
 use Rattle.table_blocks.proofs.near_rank.Statement.{statement}
