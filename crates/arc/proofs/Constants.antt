@@ -3,7 +3,8 @@ use mathlib.Core.Path.{_≡_, refl}
 use Prim.Native.Nat.{_^_}
 use mathlib.Core.Bool.{true, false}
 use lib.Ieee.{binary32, round, ofBits}
-use Rattle.arc.specs.Arc.{tiny, half, p0, p1, p2, q1}
+use Rattle.float_order.specs.Value.{half32}
+use Rattle.arc.specs.Arc.{tiny, p0, p1, p2, q1}
 
 -- 2 ^ -12
 pub tiny-is : round binary32 false 1 (2 ^ 12) ≡ tiny
@@ -11,7 +12,7 @@ unfolding round ofBits
 tiny-is = refl
 
 -- 0.5
-pub half-is : round binary32 false 1 2 ≡ half
+pub half-is : round binary32 false 1 2 ≡ half32
 unfolding round ofBits
 half-is = refl
 

@@ -1,16 +1,8 @@
 -- The arc: what stands in for the arcsine, from 0 to 1. Definitions only.
 use mathlib.Core.Bool.{cond}
 use lib.Ieee.{Float, binary32, ofBits, add, sub, mul, div, lt}
+use Rattle.float_order.specs.Value.{one32, two32, half32}
 use Rattle.square_root.specs.Root.{rootOf}
-
-abbrev pub one : Float
-one = ofBits binary32 0x3F80_0000
-
-abbrev pub two : Float
-two = ofBits binary32 0x4000_0000
-
-abbrev pub half : Float
-half = ofBits binary32 0x3F00_0000
 
 -- 2 ^ -12
 abbrev pub tiny : Float
@@ -38,7 +30,7 @@ unfoldable pub bend : Float → Float
 bend z =
     div binary32
     (mul binary32 z (add binary32 p0 (mul binary32 z (add binary32 p1 (mul binary32 z p2)))))
-    (add binary32 one (mul binary32 z q1))
+    (add binary32 one32 (mul binary32 z q1))
 
 -- x + x * R(z)
 abbrev pub bent : Float → Float → Float
@@ -46,12 +38,12 @@ bent x z = add binary32 x (mul binary32 x (bend z))
 
 -- z from 0.5 on: (1 - h) * 0.5
 abbrev pub halfBelow : Float → Float
-halfBelow h = mul binary32 (sub binary32 one h) half
+halfBelow h = mul binary32 (sub binary32 one32 h) half32
 
 -- from 0.5 on
 unfoldable pub nearOne : Float → Float
-nearOne h = sub binary32 quarterTurn (mul binary32 two (bent (rootOf (halfBelow h)) (halfBelow h)))
+nearOne h = sub binary32 quarterTurn (mul binary32 two32 (bent (rootOf (halfBelow h)) (halfBelow h)))
 
 -- the arc of h, by its three pieces
 unfoldable pub arcOf : Float → Float
-arcOf h = cond (lt h tiny) h (cond (lt h half) (bent h (mul binary32 h h)) (nearOne h))
+arcOf h = cond (lt h tiny) h (cond (lt h half32) (bent h (mul binary32 h h)) (nearOne h))

@@ -4,9 +4,9 @@ use mathlib.Core.Bool.{Bool, cond, _&&_}
 use mathlib.Core.List.{List}
 use lib.Dec.{eqb}
 use lib.ListN.{getD}
-use lib.Ieee.{Float, nan, binary32, ofBits, mul, div, lt}
+use lib.Ieee.{Float, nan, binary32, mul, div, lt}
 use lib.Ieee.Scale.{finite}
-use Rattle.float_order.specs.Value.{pi32}
+use Rattle.float_order.specs.Value.{zero32, pi32}
 use Rattle.pattern.specs.Edges.{edgesOf, ratiosOf}
 use Rattle.pattern_entry.specs.declared.PatternEntry.{PatternEntry}
 use Rattle.tolerance.specs.declared.Tolerance.{Tolerance}
@@ -16,17 +16,13 @@ use Rattle.candidates.specs.declared.Image.{Image}
 use Rattle.candidates.specs.declared.Tested.{Tested}
 use Rattle.candidates.specs.declared.Tested.the-variants.{Over, Hit}
 
--- 0
-abbrev pub nought : Float
-nought = ofBits binary32 0
-
 -- "the measured field (largest angle worked out from the four stars / image edge · pass field)"
 unfoldable pub measuredOf : List Float → Float → Float → Float
 measuredOf angles edge field = mul binary32 (div binary32 (getD angles 5 nan) edge) field
 
 -- "must be finite, above 0 and below f32 pi"
 unfoldable pub fieldSound : Float → Bool
-fieldSound x = finite x && (lt nought x && lt x pi32)
+fieldSound x = finite x && (lt zero32 x && lt x pi32)
 
 -- the tests of an entry, in this order: the mark, the stored edge's field, the ratios, the measured field
 unfoldable pub testOf : PatternEntry → ℕ → List Float → Image → Float → Float → Tolerance → Tested

@@ -2,17 +2,11 @@
 use mathlib.Core.Bool.{Bool, true, not, _&&_}
 use mathlib.Core.List.{List}
 use lib.ListN.{getD}
-use lib.Ieee.{Float, nan, binary32, ofBits, add, sub, mul, div, lt}
+use lib.Ieee.{Float, nan, binary32, add, sub, mul, div, lt}
+use Rattle.float_order.specs.Value.{one32, quarter32}
 use Rattle.float.specs.Magnitude.{magnitudeOf}
 use Rattle.tolerance.specs.declared.Tolerance.{Tolerance}
 use Rattle.tolerance.specs.declared.Tolerance.the-variants.{Given, Absent}
-
--- 0.25 and 1
-abbrev pub quarter : Float
-quarter = ofBits binary32 0x3E80_0000
-
-abbrev pub one : Float
-one = ofBits binary32 0x3F80_0000
 
 -- "With a field-of-view error, an entry whose stored edge / image edge · pass field differs from the pass field by more is passed over."
 -- A difference that is a NaN isn't more.
@@ -35,4 +29,4 @@ inside r e x =
 
 -- "The mark is set when |field/pass field − 1| > 0.25·`match_radius`."
 unfoldable pub rebuildOf : Float → Float → Float → Bool
-rebuildOf measured field radius = lt (mul binary32 quarter radius) (magnitudeOf (sub binary32 (div binary32 measured field) one))
+rebuildOf measured field radius = lt (mul binary32 quarter32 radius) (magnitudeOf (sub binary32 (div binary32 measured field) one32))

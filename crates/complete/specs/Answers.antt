@@ -2,7 +2,8 @@
 use Prim.Native.Nat.{ℕ}
 use mathlib.Core.List.{List, [], _∷_}
 use lib.ListN.{getD}
-use lib.Ieee.{Float, binary32, ofBits}
+use lib.Ieee.{Float}
+use Rattle.float_order.specs.Value.{zero32}
 use Rattle.complete.specs.declared.Row.{Row}
 use Rattle.complete.specs.declared.Completion.{Completion}
 use Rattle.complete.specs.declared.Completed.{Completed}
@@ -11,9 +12,6 @@ use Rattle.complete.specs.declared.Completed.{Completed}
 pub data Answer : Type 0 where
   vectors : List (List Float) → List (List Float) → Answer
   refused : ℕ → Answer
-
-abbrev pub nought : Float
-nought = ofBits binary32 0
 
 -- a direction in a row, and four of them
 abbrev pub row : List Float → Row
@@ -31,7 +29,7 @@ directionsOf r = getD r 0 noRow .c ∷ getD r 1 noRow .c ∷ getD r 2 noRow .c �
 
 -- four directions that are all zero
 abbrev pub zeroes : List (List Float)
-zeroes = let z = nought ∷ nought ∷ nought ∷ [] in z ∷ z ∷ z ∷ z ∷ []
+zeroes = let z = zero32 ∷ zero32 ∷ zero32 ∷ [] in z ∷ z ∷ z ∷ z ∷ []
 
 -- what an answer is made into: a refusal's vectors are all zero
 abbrev pub completedAs : Answer → Completed

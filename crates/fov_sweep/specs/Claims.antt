@@ -6,7 +6,7 @@ use mathlib.Core.List.{List, [], _∷_}
 use lib.IntN.{negsuc}
 use lib.ListN.{length}
 use lib.Ieee.{Float, fin}
-use Rattle.float_order.specs.Value.{one32}
+use Rattle.float_order.specs.Value.{one32, half32, quarter32}
 use Rattle.tolerance.specs.declared.Tolerance.{Tolerance}
 use Rattle.tolerance.specs.declared.Tolerance.the-variants.{Given}
 use Rattle.fov_sweep.specs.Sweep.{sweepOf, sweptOf, laterOf}
@@ -24,16 +24,10 @@ abbrev pub SaysTheAnswer : Type 0
 SaysTheAnswer = (estimate : Float) (error : Tolerance) (step : Float) (before : List Float)
     → sweptSays (sweptOf estimate error step (length before)) (laterOf estimate error step before) ≡ sweeping estimate error step (length before)
 
-abbrev half : Float
-half = fin false 1 (negsuc 0)
-
-abbrev quarter : Float
-quarter = fin false 1 (negsuc 1)
-
 -- Sweep 1, error 0.5, step 0.25: 1, 1.25, 0.75, 1.5, 0.5: `sweep-one`.
 abbrev pub SweepOne : Type 0
-SweepOne = sweepOf 5 one32 (Given half) quarter ≡ one32 ∷ fin false 5 (negsuc 1) ∷ fin false 3 (negsuc 1) ∷ fin false 3 (negsuc 0) ∷ half ∷ []
+SweepOne = sweepOf 5 one32 (Given half32) quarter32 ≡ one32 ∷ fin false 5 (negsuc 1) ∷ fin false 3 (negsuc 1) ∷ fin false 3 (negsuc 0) ∷ half32 ∷ []
 
 -- Sweep 0.25, error 0.25, step 0.25: 0.25, 0.5: `sweep-quarter`.
 abbrev pub SweepQuarter : Type 0
-SweepQuarter = sweepOf 2 quarter (Given quarter) quarter ≡ quarter ∷ half ∷ []
+SweepQuarter = sweepOf 2 quarter32 (Given quarter32) quarter32 ≡ quarter32 ∷ half32 ∷ []

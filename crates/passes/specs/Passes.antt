@@ -5,20 +5,20 @@ use mathlib.Core.List.{List}
 use lib.Dec.{leb, eqb}
 use lib.ListN.{length, getD}
 use lib.Ieee.{Float, nan, binary32, ofBits, neg, le, lt}
-use Rattle.float_order.specs.Value.{pi32}
+use Rattle.float_order.specs.Value.{zero32, one32, pi32}
 use Rattle.passes.specs.declared.Pass.{Pass}
 
 -- a field of view "above 0 and below f32 pi"
 unfoldable pub fieldFits : Float → Bool
-fieldFits x = lt (ofBits binary32 0) x && lt x pi32
+fieldFits x = lt zero32 x && lt x pi32
 
 -- a pixel scale "above 0 and at most 16"
 unfoldable pub scaleFits : Float → Bool
-scaleFits x = lt (ofBits binary32 0) x && le x (ofBits binary32 0x4180_0000)
+scaleFits x = lt zero32 x && le x (ofBits binary32 0x4180_0000)
 
 -- a cosine "from −1 to 1"
 unfoldable pub cosineFits : Float → Bool
-cosineFits x = le (neg (ofBits binary32 0x3F80_0000)) x && le x (ofBits binary32 0x3F80_0000)
+cosineFits x = le (neg one32) x && le x one32
 
 unfoldable pub passFits : Pass → Bool
 passFits p = fieldFits (p .field) && (scaleFits (p .scale) && cosineFits (p .cosine))

@@ -30,7 +30,7 @@ use Rattle.float_order.proofs.Intervals.{in-finite, in-wider, in-add, in-sub, i
 use Rattle.float_order.proofs.Risings.{rising-at, between-at}
 use Rattle.pattern.specs.Sort.{sorted, Chained, chained-none, chained-one, chained}
 use Rattle.pattern.proofs.Sorting.{Each, each-none, each}
-use Rattle.pattern.specs.Edges.{nought, one, squared, squaredDistance, distance, angleOf, angle, angles, edgesOf, shares, noughts, ratiosOf}
+use Rattle.pattern.specs.Edges.{squared, squaredDistance, distance, angleOf, angle, angles, edgesOf, shares, noughts, ratiosOf}
 use Rattle.pattern.specs.Directions.{Small, Direction}
 use Rattle.pattern.specs.Claims.{EdgesRise, EdgesPermuted, EdgeRatiosRise, DirectionsRatios}
 use Rattle.pattern.proofs.Insertion.{sorted-length}
@@ -117,16 +117,16 @@ edges-rise v d =
     (between (between-two (getD v 1 []) (getD v 2 []) (d .second) (d .third))
     (between (between-two (getD v 1 []) (getD v 3 []) (d .second) (d .fourth))
     (between (between-two (getD v 2 []) (getD v 3 []) (d .third) (d .fourth)) between-none)))))) in
-    (r .0, r .1, sorted-length lt nought (angles v))
+    (r .0, r .1, sorted-length lt zero32 (angles v))
 
 -- ---- the ratios
 noughts-rise : Rising noughts × Between zero32 one32 noughts
-unfolding ofBits le
+unfolding le
 noughts-rise =
-    let i : In zero32 one32 nought = record { low = tt; high = tt } in
-    (rises tt (rises tt (rises tt (rises tt (rises-one nought)))), between i (between i (between i (between i (between i between-none)))))
+    let i : In zero32 one32 zero32 = record { low = tt; high = tt } in
+    (rises tt (rises tt (rises tt (rises tt (rises-one zero32)))), between i (between i (between i (between i (between i between-none)))))
 
-shares-rise : (e : List Float) → length e ≡ 6 → Rising e → Between zero32 pi32 e → T (lt nought (getD e 5 nan)) → Rising (shares e) × Between zero32 one32 (shares e)
+shares-rise : (e : List Float) → length e ≡ 6 → Rising e → Between zero32 pi32 e → T (lt zero32 (getD e 5 nan)) → Rising (shares e) × Between zero32 one32 (shares e)
 unfolding shares ofBits
 shares-rise e six r b t =
     let d : ℕ → Float = λ i. div binary32 (getD e i nan) (getD e 5 nan) in
@@ -148,9 +148,9 @@ shares-rise e six r b t =
 
 pub edge-ratios-rise : EdgeRatiosRise
 unfolding ratiosOf
-edge-ratios-rise e six r b = go (lt nought (getD e 5 nan)) (λ t. some t)
+edge-ratios-rise e six r b = go (lt zero32 (getD e 5 nan)) (λ t. some t)
   where
-    some : T (lt nought (getD e 5 nan)) → Rising (shares e) × Between zero32 one32 (shares e)
+    some : T (lt zero32 (getD e 5 nan)) → Rising (shares e) × Between zero32 one32 (shares e)
     some t = shares-rise e six r b t
 
     go : (t : Bool) → (T t → Rising (shares e) × Between zero32 one32 (shares e))
@@ -159,7 +159,7 @@ edge-ratios-rise e six r b = go (lt nought (getD e 5 nan)) (λ t. some t)
     go false k = noughts-rise
 
 nought-fit : (i : ℕ) → i < 5 → T (fits binary32 (getD noughts i nan))
-unfolding ofBits fits
+unfolding fits
 nought-fit zero h = tt
 nought-fit (suc zero) h = tt
 nought-fit (suc (suc zero)) h = tt
@@ -178,7 +178,7 @@ share-fit e (suc (suc (suc (suc (suc i))))) h = absurd (omega arith)
 
 fit-at : (e : List Float) (i : ℕ) → i < 5 → T (fits binary32 (getD (ratiosOf e) i nan))
 unfolding ratiosOf
-fit-at e i h = go (lt nought (getD e 5 nan)) i h
+fit-at e i h = go (lt zero32 (getD e 5 nan)) i h
   where
     go : (t : Bool) (i : ℕ) → i < 5 → T (fits binary32 (getD (cond t (shares e) noughts) i nan))
     go true i h = share-fit e i h
@@ -186,7 +186,7 @@ fit-at e i h = go (lt nought (getD e 5 nan)) i h
 
 ratios-length : (e : List Float) → length (ratiosOf e) ≡ 5
 unfolding ratiosOf shares
-ratios-length e = go (lt nought (getD e 5 nan))
+ratios-length e = go (lt zero32 (getD e 5 nan))
   where
     go : (t : Bool) → length (cond t (shares e) noughts) ≡ 5
     go true = refl
@@ -198,12 +198,12 @@ directions-ratios v d =
     let h = edges-rise v d in
     let r = edge-ratios-rise e (h .2) (h .0) (h .1) in
     let n = ratios-length e in
-    let one : (i : ℕ) → i < 5 → Ratio (getD (ratiosOf e) i nan) = λ i k. record { held = fit-at e i k; unit = between-at zero32 one32 (ratiosOf e) i (omega arith) (r .1) } in
+    let one32 : (i : ℕ) → i < 5 → Ratio (getD (ratiosOf e) i nan) = λ i k. record { held = fit-at e i k; unit = between-at zero32 one32 (ratiosOf e) i (omega arith) (r .1) } in
     record {
-      first = one 0 (omega arith);
-      second = one 1 (omega arith);
-      third = one 2 (omega arith);
-      fourth = one 3 (omega arith);
-      fifth = one 4 (omega arith);
+      first = one32 0 (omega arith);
+      second = one32 1 (omega arith);
+      third = one32 2 (omega arith);
+      fourth = one32 3 (omega arith);
+      fifth = one32 4 (omega arith);
       rise = (rising-at (ratiosOf e) 0 (omega arith) (r .0), rising-at (ratiosOf e) 1 (omega arith) (r .0), rising-at (ratiosOf e) 2 (omega arith) (r .0), rising-at (ratiosOf e) 3 (omega arith) (r .0));
     }

@@ -2,24 +2,12 @@
 use mathlib.Core.Bool.{cond}
 use mathlib.Core.List.{List, [], _∷_}
 use lib.ListN.{getD}
-use lib.Ieee.{Float, nan, binary32, ofBits, add, sub, mul, div, lt}
+use lib.Ieee.{Float, nan, binary32, add, sub, mul, div, lt}
+use Rattle.float_order.specs.Value.{zero32, one32, two32, half32}
 use Rattle.square_root.specs.Root.{rootOf}
 use Rattle.arc.specs.Arc.{arcOf}
 use Rattle.float_order.specs.Choice.{smaller}
 use Rattle.pattern.specs.Sort.{sorted}
-
--- 0, 0.5, 1 and 2
-abbrev pub nought : Float
-nought = ofBits binary32 0
-
-abbrev pub half : Float
-half = ofBits binary32 0x3F00_0000
-
-abbrev pub one : Float
-one = ofBits binary32 0x3F80_0000
-
-abbrev pub two : Float
-two = ofBits binary32 0x4000_0000
 
 -- "The source's powi(2) is read as a product of the value with itself."
 abbrev pub squared : Float → Float
@@ -39,7 +27,7 @@ distance a b = rootOf (squaredDistance a b)
 
 -- "Six distances give six angles, each twice the arc of half the distance, that half cut to at most 1"
 unfoldable pub angleOf : Float → Float
-angleOf d = mul binary32 two (arcOf (smaller (mul binary32 half d) one))
+angleOf d = mul binary32 two32 (arcOf (smaller (mul binary32 half32 d) one32))
 
 abbrev pub angle : List Float → List Float → Float
 angle a b = angleOf (distance a b)
@@ -70,8 +58,8 @@ shares e =
     ∷ []
 
 abbrev pub noughts : List Float
-noughts = nought ∷ nought ∷ nought ∷ nought ∷ nought ∷ []
+noughts = zero32 ∷ zero32 ∷ zero32 ∷ zero32 ∷ zero32 ∷ []
 
 -- "A largest edge not above 0 makes all five ratios 0."
 unfoldable pub ratiosOf : List Float → List Float
-ratiosOf e = cond (lt nought (getD e 5 nan)) (shares e) noughts
+ratiosOf e = cond (lt zero32 (getD e 5 nan)) (shares e) noughts

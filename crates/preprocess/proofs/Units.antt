@@ -19,7 +19,7 @@ use Rattle.float_order.proofs.Intervals.{in-finite, in-wider, in-self, in-add, 
 use Rattle.square_root.specs.Root.{rootOf}
 use Rattle.square_root.proofs.Laws.{root-mono}
 use Rattle.square_root.proofs.Examples.{root-is, right}
-use Rattle.preprocess.specs.Vectors.{one, normOf, overNorm, unitOf, vectorOf}
+use Rattle.preprocess.specs.Vectors.{normOf, overNorm, unitOf, vectorOf}
 use Rattle.preprocess.specs.Claims.{Coordinate, Scale, UnitVectors, CentroidVectors, Spot}
 use Rattle.preprocess.proofs.Coordinates.{coordinates-at}
 
@@ -74,7 +74,7 @@ square-in : (u : Float) → Scaled u → In zero32 (fin false 1 (pos 38)) (mul b
 unfolding mul le
 square-in u i = in-wider zero32 (fin false 1 (pos 38)) tt tt (in-square binary32 1 (pos 19) u i)
 
-sum-in : (u v : Float) → Scaled u → Scaled v → In one32 (fin false 1 (pos 40)) (add binary32 (add binary32 (mul binary32 u u) (mul binary32 v v)) (mul binary32 one one))
+sum-in : (u v : Float) → Scaled u → Scaled v → In one32 (fin false 1 (pos 40)) (add binary32 (add binary32 (mul binary32 u u) (mul binary32 v v)) (mul binary32 one32 one32))
 unfolding ofBits add mul le
 sum-in u v i j =
     in-wider one32 (fin false 1 (pos 40)) tt tt
@@ -91,7 +91,7 @@ pub norm-in : (u v : Float) → Scaled u → Scaled v → Norm (normOf u v)
 unfolding normOf
 norm-in u v i j =
     let s = sum-in u v i j in
-    let w = add binary32 (add binary32 (mul binary32 u u) (mul binary32 v v)) (mul binary32 one one) in
+    let w = add binary32 (add binary32 (mul binary32 u u) (mul binary32 v v)) (mul binary32 one32 one32) in
     record {
       low = subst (λ (y : Float). T (le y (rootOf w))) root-of-one (root-mono one32 w under-one (s .low));
       high = subst (λ (y : Float). T (le (rootOf w) y)) root-of-large (root-mono w (fin false 1 (pos 40)) (le-through zero32 one32 w under-one (s .low)) (s .high));

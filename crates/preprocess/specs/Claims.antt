@@ -7,7 +7,7 @@ use lib.IntN.{pos, negsuc}
 use lib.Dec.{T}
 use lib.ListN.{length, getD}
 use lib.Ieee.{Float, nan, fin, binary32, round, le, lt}
-use Rattle.float_order.specs.Value.{zero32, one32}
+use Rattle.float_order.specs.Value.{zero32, one32, quarter32}
 use Rattle.float_order.specs.Interval.{In}
 use Rattle.preprocess.specs.Questions.{coordinatesFit}
 use Rattle.preprocess.specs.Vectors.{unitOf, vectorOf}
@@ -39,4 +39,4 @@ CentroidVectors = (c : List Float) (i : CentroidIndex) (s : Float)
 
 -- Spot (3, 0), scale 0.25: the f32 nearest 0.6, 0, nearest 0.8: `spot`.
 abbrev pub Spot : Type 0
-Spot = unitOf (fin false 3 (pos 0)) zero32 (fin false 1 (negsuc 1)) ≡ round binary32 false 6 10 ∷ zero32 ∷ round binary32 false 8 10 ∷ []
+Spot = unitOf (fin false 3 (pos 0)) zero32 quarter32 ≡ round binary32 false 6 10 ∷ zero32 ∷ round binary32 false 8 10 ∷ []

@@ -2,21 +2,19 @@
 use Prim.Native.Nat.{_+_, _*_}
 use mathlib.Core.List.{List, [], _∷_}
 use lib.ListN.{getD}
-use lib.Ieee.{Float, nan, binary32, ofBits, add, mul, div}
+use lib.Ieee.{Float, nan, binary32, add, mul, div}
+use Rattle.float_order.specs.Value.{one32}
 use Rattle.square_root.specs.Root.{rootOf}
 use Rattle.preprocess.specs.declared.CentroidIndex.{CentroidIndex}
 
-abbrev pub one : Float
-one = ofBits binary32 0x3F80_0000
-
 -- the norm of (u, v, 1): the root of the sum of squares, added from left to right
 unfoldable pub normOf : Float → Float → Float
-normOf u v = rootOf (add binary32 (add binary32 (mul binary32 u u) (mul binary32 v v)) (mul binary32 one one))
+normOf u v = rootOf (add binary32 (add binary32 (mul binary32 u u) (mul binary32 v v)) (mul binary32 one32 one32))
 
 -- (u, v, 1) divided by its norm
 unfoldable pub overNorm : Float → Float → List Float
 unfolding normOf
-overNorm u v = div binary32 u (normOf u v) ∷ div binary32 v (normOf u v) ∷ div binary32 one (normOf u v) ∷ []
+overNorm u v = div binary32 u (normOf u v) ∷ div binary32 v (normOf u v) ∷ div binary32 one32 (normOf u v) ∷ []
 
 -- "(x·scale, y·scale, 1), divided by its norm."
 unfoldable pub unitOf : Float → Float → Float → List Float

@@ -3,9 +3,9 @@ use mathlib.Core.Path.{_≡_}
 use Prim.Native.Nat.{ℕ, _/_, _<_}
 use mathlib.Core.Bool.{Bool, true, false}
 use mathlib.Core.List.{List, [], _∷_}
-use lib.IntN.{pos}
 use lib.ListN.{length, getD, take}
-use lib.Ieee.{Float, nan, fin, lt}
+use lib.Ieee.{Float, nan, lt}
+use Rattle.float_order.specs.Value.{zero32}
 use Rattle.combinations.specs.declared.Four.{Four}
 use Rattle.candidates.specs.declared.Image.{Image}
 use Rattle.search_feed.specs.Data.{Frame}
@@ -18,7 +18,7 @@ use Rattle.search_desk.specs.declared.Held.{Held}
 
 -- the desk that nothing lies on: all zero
 unfoldable pub noImage : Image
-noImage = let z = fin false 0 (pos 0) in record { edge = z; ratios = z ∷ z ∷ z ∷ z ∷ z ∷ [] }
+noImage = record { edge = zero32; ratios = zero32 ∷ zero32 ∷ zero32 ∷ zero32 ∷ zero32 ∷ [] }
 
 unfoldable pub emptyDesk : Held
 emptyDesk =

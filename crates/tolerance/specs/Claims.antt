@@ -6,7 +6,7 @@ use lib.IntN.{pos}
 use lib.Dec.{T}
 use lib.Ieee.{Float, fin, binary32, mul, div, le}
 use lib.Ieee.Scale.{finite}
-use Rattle.float_order.specs.Value.{zero32, one32}
+use Rattle.float_order.specs.Value.{zero32, one32, two32}
 use Rattle.float_order.specs.KeyPart.{bins32, NarrowTolerance}
 use Rattle.tolerance.specs.Tolerances.{toleranceOf, optionFits, settingsFit}
 use Rattle.tolerance.specs.declared.Tolerance.{Tolerance}
@@ -30,4 +30,4 @@ SettingsFitting = (bins stars : ℕ) (table radius : Float) (own field : Toleran
 -- The source's 16 / (2 · bins) is 8 / bins: `ceiling-as-the-source`.
 abbrev pub CeilingAsTheSource : Type 0
 CeilingAsTheSource = (bins : ℕ) → 0 < bins → bins ≤ 4096
-    → div binary32 (fin false 1 (pos 4)) (mul binary32 (fin false 1 (pos 1)) (bins32 bins)) ≡ div binary32 (fin false 1 (pos 3)) (bins32 bins)
+    → div binary32 (fin false 1 (pos 4)) (mul binary32 two32 (bins32 bins)) ≡ div binary32 (fin false 1 (pos 3)) (bins32 bins)

@@ -1,4 +1,4 @@
-use lib.Ieee.{nanBits}
+use lib.Ieee.{nanBits, ofBits}
 use Rattle.arc.specs.Arc.{nearOne}
 use borrow.Author.Needs.{needs}
 use Rattle.arc.proofs.near_one.Statement.{statement}
@@ -15,7 +15,7 @@ bend-requires : tie.Need-bend-requires
 bend-requires c κs = search needs
 
 returns : tie.Need-returns
-unfolding nearOne
+unfolding nearOne ofBits
 returns c = cc
 
 pub near-one-spec : {M : Type 1} → statement M

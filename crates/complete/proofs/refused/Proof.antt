@@ -1,4 +1,5 @@
 -- `complete::refused` meets its contract. Assumes nothing.
+use lib.Ieee.{ofBits}
 use Rattle.complete.proofs.Saying.{refused-as}
 use borrow.Author.Needs.{needs}
 use Rattle.complete.proofs.refused.Statement.{statement}
@@ -8,6 +9,7 @@ rows-requires : tie.Need-rows-requires
 rows-requires c κs = search needs
 
 returns : tie.Need-returns
+unfolding ofBits
 returns c = refused-as _ (c .rows .ensures)
 
 pub refused-spec : {M : Type 1} → statement M

@@ -1,5 +1,6 @@
 use mathlib.Core.Path.{sym, ap}
 use mathlib.Core.Bool.{Bool, cond}
+use lib.Ieee.{ofBits}
 use Rattle.pattern.specs.Edges.{noughts, shares, ratiosOf}
 use borrow.Author.Needs.{needs}
 use Rattle.pattern.proofs.compute_edge_ratios.Statement.{statement}
@@ -24,11 +25,11 @@ array-read-t26 : tie.Need-array-read-t26
 array-read-t26 c = search needs
 
 returns : tie.Need-returns
-unfolding ratiosOf shares
+unfolding ratiosOf shares ofBits
 returns c = sym (ap (λ (t : Bool). cond t (shares (c .before .args .t1)) noughts) (c .if1 .taken))
 
 returns-2 : tie.Need-returns-2
-unfolding ratiosOf
+unfolding ratiosOf ofBits
 returns-2 c = sym (ap (λ (t : Bool). cond t (shares (c .before .args .t1)) noughts) (c .if1 .left))
 
 pub compute-edge-ratios-spec : {M : Type 1} → statement M

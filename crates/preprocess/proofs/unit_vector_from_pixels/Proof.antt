@@ -1,4 +1,5 @@
 -- `preprocess::unit_vector_from_pixels` meets its contract. Assumes nothing.
+use lib.Ieee.{ofBits}
 use Rattle.preprocess.specs.Vectors.{unitOf, overNorm, normOf}
 use borrow.Author.Needs.{needs}
 use Rattle.preprocess.proofs.unit_vector_from_pixels.Statement.{statement}
@@ -8,7 +9,7 @@ sqrt-requires : tie.Need-sqrt-requires
 sqrt-requires c κs = search needs
 
 returns : tie.Need-returns
-unfolding unitOf overNorm normOf
+unfolding unitOf overNorm normOf ofBits
 returns c = cc
 
 pub unit-vector-from-pixels-spec : {M : Type 1} → statement M
