@@ -3,7 +3,7 @@ use Prim.Native.Nat.{ℕ, _+_}
 use mathlib.Core.List.{List}
 use mathlib.Core.Option.{Option, none, some}
 use lib.Ieee.{binary32, ofBits}
-use Rattle.pattern_entry.specs.Entry.{wordAt, markOf}
+use Rattle.pattern_entry.specs.Entry.{wordAt, markIn}
 use Rattle.pattern_catalog.specs.Answers.{Answer, filledAt, empty, refused}
 use Rattle.catalog_c.specs.declared.RawEntry.{RawEntry}
 
@@ -26,5 +26,5 @@ rawEntry e = record {
   star2 = wordAt e 8;
   star3 = wordAt e 12;
   edge = ofBits binary32 (wordAt e 16);
-  mark = markOf e;
+  mark = markIn e;
 }

@@ -1,7 +1,7 @@
 // The catalogue's calls as C functions, for the comparison with Rust and the benchmark.
 ghost use mathlib.Core.Path.{_≡_};
 ghost use lib.ListN.{length};
-ghost use Rattle.pattern_catalog.specs.SlotRead.{slotRead, partOf};
+ghost use Rattle.pattern_catalog.specs.SlotRead.{slotRead, sectionPart};
 ghost use Rattle.opening.specs.Opening.{opening};
 ghost use Rattle.catalog_c.specs.Numbers.{numberOf, answerNumber, rawEntry};
 use opening::Opened;
@@ -44,7 +44,7 @@ pub extern "C" fn catalog_find(slots: u64, words: &[u64], packed: &[u8], slot: u
 // The length of the part that the slot read hands back.
 #[no_mangle]
 pub extern "C" fn catalog_part(slots: u64, words: &[u64], packed: &[u8], slot: u64) -> u64
-    ensures { λ r. ⌜ r ≡ length (partOf (now (packed .entry)) (slotRead slots (now (words .entry)) (now (packed .entry)) slot)) ⌝ }
+    ensures { λ r. ⌜ r ≡ length (sectionPart (now (packed .entry)) (slotRead slots (now (words .entry)) (now (packed .entry)) slot)) ⌝ }
 {
     let e = pattern_catalog::entry_of(slots, words, packed, slot);
     e.len() as u64
@@ -53,7 +53,7 @@ pub extern "C" fn catalog_part(slots: u64, words: &[u64], packed: &[u8], slot: u
 // The entry that the part holds, all zero where it is empty.
 #[no_mangle]
 pub extern "C" fn catalog_entry(slots: u64, words: &[u64], packed: &[u8], slot: u64) -> RawEntry
-    ensures { λ r. ⌜ r ≡ rawEntry (partOf (now (packed .entry)) (slotRead slots (now (words .entry)) (now (packed .entry)) slot)) ⌝ }
+    ensures { λ r. ⌜ r ≡ rawEntry (sectionPart (now (packed .entry)) (slotRead slots (now (words .entry)) (now (packed .entry)) slot)) ⌝ }
 {
     let r = pattern_entry::read_packed(pattern_catalog::entry_of(slots, words, packed, slot));
     let s = r.stars;

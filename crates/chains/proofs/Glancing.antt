@@ -10,7 +10,7 @@ use native.Mathlib.Omega.{arith}
 use borrow.Author.Tests.{ltb-true, lt-ltb, le-ltb, eq-eqb, ne-eqb}
 use Rattle.star_slice.specs.Ask.{ask}
 use Rattle.star_slice.specs.Stars.{starCount, starSound}
-use Rattle.pattern_entry.specs.Entry.{wordAt, markOf, bytesAt, inSection}
+use Rattle.pattern_entry.specs.Entry.{wordAt, markIn, bytesAt, inSection}
 use Rattle.sound_entries.specs.Sound.{entrySound}
 use Rattle.star_slice.specs.Shortcuts.{everyStar}
 use Rattle.sound_entries.specs.Shortcuts.{indicesBelow}
@@ -34,15 +34,15 @@ and-no true = refl
 and-no false = refl
 
 -- ---- an entry's bytes
-module _ (stars : List Float) (mark : ℕ) (e : List ℕ) (m : ℕ) (me : m ≡ markOf e) where
+module _ (stars : List Float) (mark : ℕ) (e : List ℕ) (m : ℕ) (me : m ≡ markIn e) where
   pub mark-same : m ≡ mark → false ≡ passesBy stars mark e
   unfolding passesBy
-  mark-same h = sym (rw (eq-eqb (markOf e) mark (sym me ∙ h)) (and-no (entrySound stars e)))
+  mark-same h = sym (rw (eq-eqb (markIn e) mark (sym me ∙ h)) (and-no (entrySound stars e)))
 
   module _ (o : m ≡ mark → ⊥) where
     other-mark : passesBy stars mark e ≡ (entrySound stars e && true)
     unfolding passesBy
-    other-mark = rw (ne-eqb (markOf e) mark (λ h. o (me ∙ h)))
+    other-mark = rw (ne-eqb (markIn e) mark (λ h. o (me ∙ h)))
 
     pub mark-other : (b : Bool) → b ≡ entrySound stars e → b ≡ passesBy stars mark e
     mark-other b h = h ∙ by (entrySound stars e) ∙ sym other-mark

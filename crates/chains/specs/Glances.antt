@@ -8,7 +8,7 @@ use lib.Ieee.{Float}
 use Rattle.table_blocks.specs.Blocks.{filled, place}
 use Rattle.star_slice.specs.Stars.{starCount, starSound}
 use Rattle.star_slice.specs.Shortcuts.{everyStar}
-use Rattle.pattern_entry.specs.Entry.{markOf, bytesAt}
+use Rattle.pattern_entry.specs.Entry.{markIn, bytesAt}
 use Rattle.sound_entries.specs.Sound.{entrySound}
 use Rattle.chains.specs.declared.Known.{Known}
 use Rattle.chains.specs.declared.Glance.{Glance}
@@ -28,7 +28,7 @@ askedStars stars k made = cond (k .asked) k (cond (ltb made (starCount stars / 3
 
 -- "A differing mark goes on to the next probe", once question 9 has let the entry through
 unfoldable pub passesBy : List Float → ℕ → List ℕ → Bool
-passesBy stars mark e = entrySound stars e && not (eqb (markOf e) mark)
+passesBy stars mark e = entrySound stars e && not (eqb (markIn e) mark)
 
 unfoldable pub glanceOf : List ℕ → List ℕ → List Float → ℕ → ℕ → Glance
 glanceOf words packed stars mark slot =

@@ -24,8 +24,8 @@ rowsOf v = row (getD v 0 []) ∷ row (getD v 1 []) ∷ row (getD v 2 []) ∷ row
 abbrev pub noRow : Row
 noRow = row []
 
-abbrev pub directionsOf : List Row → List (List Float)
-directionsOf r = getD r 0 noRow .c ∷ getD r 1 noRow .c ∷ getD r 2 noRow .c ∷ getD r 3 noRow .c ∷ []
+abbrev pub rowDirections : List Row → List (List Float)
+rowDirections r = getD r 0 noRow .c ∷ getD r 1 noRow .c ∷ getD r 2 noRow .c ∷ getD r 3 noRow .c ∷ []
 
 -- four directions that are all zero
 abbrev pub zeroes : List (List Float)
@@ -38,7 +38,7 @@ completedAs (refused n) = record { answer = Completion.Refused n; image = rowsOf
 
 -- what `complete` says, by the case of its enum
 abbrev pub saysWith : Completion → List Row → List Row → Answer
-saysWith Completion.Done image stars = vectors (directionsOf image) (directionsOf stars)
+saysWith Completion.Done image stars = vectors (rowDirections image) (rowDirections stars)
 saysWith (Completion.Refused n) image stars = refused n
 
 abbrev pub completedSays : Completed → Answer

@@ -4,7 +4,7 @@ use mathlib.Core.List.{List, [], _∷_}
 use Prim.Native.Nat.{ℕ, suc, _+_, _*_, _/_, _%_, _≤_, _<_}
 use lib.Dec.{T, eqb, ltb, leb, ltb→lt, leb→le}
 use Rattle.key_list.specs.Keys.{apart}
-use Rattle.key_codes.specs.Order.{unpack, ones, twos, orderOf}
+use Rattle.key_codes.specs.Order.{unpack, ones, twos, codesAround}
 use Rattle.key_codes.proofs.Sets.{both, below, at, both-left, both-right}
 
 -- how many parts of two codes differ
@@ -39,21 +39,21 @@ among x [] = false
 among x (y ∷ l) = cond (eqb x y) true (among x l)
 
 complete : ℕ → Bool
-complete c = below (λ (x : ℕ). among x (orderOf c)) 32
+complete c = below (λ (x : ℕ). among x (codesAround c)) 32
 
 right : ℕ → Bool
-right c = both (rising c 0 (orderOf c)) (complete c)
+right c = both (rising c 0 (codesAround c)) (complete c)
 
 all-right : T (below right 32)
-unfolding apart unpack ones twos orderOf right rising rank differ complete among
+unfolding apart unpack ones twos codesAround right rising rank differ complete among
 all-right = tt
 
 -- the order around c rises,
-pub order-rises : (c : ℕ) → c < 32 → T (rising c 0 (orderOf c))
+pub order-rises : (c : ℕ) → c < 32 → T (rising c 0 (codesAround c))
 unfolding right
-order-rises c h = both-left (rising c 0 (orderOf c)) (complete c) (at right 32 all-right c h)
+order-rises c h = both-left (rising c 0 (codesAround c)) (complete c) (at right 32 all-right c h)
 
 -- and has every code
-pub order-all : (c : ℕ) → c < 32 → (x : ℕ) → x < 32 → T (among x (orderOf c))
+pub order-all : (c : ℕ) → c < 32 → (x : ℕ) → x < 32 → T (among x (codesAround c))
 unfolding right complete
-order-all c h x k = at (λ (z : ℕ). among z (orderOf c)) 32 (both-right (rising c 0 (orderOf c)) (complete c) (at right 32 all-right c h)) x k
+order-all c h x k = at (λ (z : ℕ). among z (codesAround c)) 32 (both-right (rising c 0 (codesAround c)) (complete c) (at right 32 all-right c h)) x k

@@ -15,7 +15,7 @@ use Rattle.key_list.specs.Listed.{Has, here, there, Listed, Before, Precedes, O
 use Rattle.key_list.proofs.Unique.{keys-unique}
 use Rattle.key_codes.specs.Codes.{keyOfCode, codeOf, has, Pairs}
 use Rattle.key_codes.proofs.CodeKeys.{keysOfCodes}
-use Rattle.key_codes.specs.Order.{orderOf}
+use Rattle.key_codes.specs.Order.{codesAround}
 use Rattle.key_codes.specs.Valid.{validOf}
 use Rattle.key_codes.proofs.Sets.{at, Good, valid-good, good-valid}
 use Rattle.key_codes.proofs.Around.{differ, rank, rising, among, step, order-rises, order-all}
@@ -216,9 +216,9 @@ module _ (c lo hi : List ℕ) (B : ℕ) (g : Pairs c lo hi B) where
         fifth = (omega arith, in-range (getD lo 4 0) (getD hi 4 0) (x % 2) (le-trans (g .fifth .0) (g .fifth .1)) (omega arith) (k .fifth));
       }
 
-  codes-only : (k : List ℕ) → Has k (keysOfCodes lo (validOf lo hi) (orderOf (codeOf c lo))) → Listed lo hi k
+  codes-only : (k : List ℕ) → Has k (keysOfCodes lo (validOf lo hi) (codesAround (codeOf c lo))) → Listed lo hi k
   codes-only k h =
-      let d = coded (codeOf c lo) lo (validOf lo hi) (orderOf (codeOf c lo)) 0 (order-rises (codeOf c lo) (code-bits c lo hi B g .small)) k h in
+      let d = coded (codeOf c lo) lo (validOf lo hi) (codesAround (codeOf c lo)) 0 (order-rises (codeOf c lo) (code-bits c lo hi B g .small)) k h in
       subst (λ (y : List ℕ). Listed lo hi y) (sym (d .is)) (good-listed (d .x) (d .small) (valid-good lo hi (d .x) (d .small) (d .valid)))
 
   -- and every such key is that of a valid code
@@ -249,7 +249,7 @@ module _ (c lo hi : List ℕ) (B : ℕ) (g : Pairs c lo hi B) where
       let e4 : getD lo 4 0 + x % 2 ≡ l .t = omega (arith, b .b4, l .fifth .0) in
       cc (l .is)
 
-  codes-all : (k : List ℕ) → Listed lo hi k → Has k (keysOfCodes lo (validOf lo hi) (orderOf (codeOf c lo)))
+  codes-all : (k : List ℕ) → Listed lo hi k → Has k (keysOfCodes lo (validOf lo hi) (codesAround (codeOf c lo)))
   codes-all k l =
       let w = g .two in
       let p = l .p - getD lo 0 0 in
@@ -259,12 +259,12 @@ module _ (c lo hi : List ℕ) (B : ℕ) (g : Pairs c lo hi B) where
       let t = l .t - getD lo 4 0 in
       let x = p * 16 + q * 8 + r * 4 + s * 2 + t in
       let b = bits-are p q r s t (omega (arith, l .first .1, w .first)) (omega (arith, l .second .1, w .second)) (omega (arith, l .third .1, w .third)) (omega (arith, l .fourth .1, w .fourth)) (omega (arith, l .fifth .1, w .fifth)) in
-      subst (λ (y : List ℕ). Has y (keysOfCodes lo (validOf lo hi) (orderOf (codeOf c lo)))) (key-back k l x b)
-      (has-code (codeOf c lo) lo (validOf lo hi) (orderOf (codeOf c lo)) x (order-all (codeOf c lo) (code-bits c lo hi B g .small) x (b .small)) (good-valid lo hi x (b .small) (code-good k l x b)))
+      subst (λ (y : List ℕ). Has y (keysOfCodes lo (validOf lo hi) (codesAround (codeOf c lo)))) (key-back k l x b)
+      (has-code (codeOf c lo) lo (validOf lo hi) (codesAround (codeOf c lo)) x (order-all (codeOf c lo) (code-bits c lo hi B g .small) x (b .small)) (good-valid lo hi x (b .small) (code-good k l x b)))
 
-  pub keys-by-codes : keysOfCodes lo (validOf lo hi) (orderOf (codeOf c lo)) ≡ keysOf c lo hi
+  pub keys-by-codes : keysOfCodes lo (validOf lo hi) (codesAround (codeOf c lo)) ≡ keysOf c lo hi
   keys-by-codes =
-      keys-unique c lo hi (keysOfCodes lo (validOf lo hi) (orderOf (codeOf c lo)))
-      (codes-ordered (validOf lo hi) (orderOf (codeOf c lo)) 0 (order-rises (codeOf c lo) (code-bits c lo hi B g .small)))
+      keys-unique c lo hi (keysOfCodes lo (validOf lo hi) (codesAround (codeOf c lo)))
+      (codes-ordered (validOf lo hi) (codesAround (codeOf c lo)) 0 (order-rises (codeOf c lo) (code-bits c lo hi B g .small)))
       codes-only
       codes-all

@@ -21,6 +21,6 @@ twos =
 
 -- the codes around c: c itself, those that differ from it in one part and in two, then those that differ from it in three, in four and
 -- in all five, which differ from the opposite code, 31 - c, in two, in one and in none
-unfoldable pub orderOf : ℕ → List ℕ
-orderOf c =
+unfoldable pub codesAround : ℕ → List ℕ
+codesAround c =
     unpack c 1 ++ (unpack (getD ones c 0) 5 ++ (unpack (getD twos c 0) 10 ++ (unpack (getD twos (31 - c) 0) 10 ++ (unpack (getD ones (31 - c) 0) 5 ++ unpack (31 - c) 1))))

@@ -4,7 +4,7 @@ ghost use mathlib.Core.List.{[], _∷_};
 ghost use Prim.Native.Nat.{_+_, _-_, _≤_, _<_};
 ghost use lib.ListN.{length, getD};
 ghost use Rattle.key_codes.specs.Codes.{codeOf, chosen, Pairs};
-ghost use Rattle.key_codes.specs.Order.{unpack, ones, twos, orderOf};
+ghost use Rattle.key_codes.specs.Order.{unpack, ones, twos, codesAround};
 ghost use Rattle.key_codes.specs.Steps.{Put};
 
 // For each code the five that differ from it in one part, in order, packed five bits each, the first lowest.
@@ -138,7 +138,7 @@ fn add(
 // The sums of the valid codes, in the order around c: so many, to out.
 pub fn listed(c: u64, valid: u32, sums: &[u64; 32], out: &mut [u64; 1024]) -> usize
     requires { ⌜ (c < 32) × (length (now out) ≡ 1024) × (length (now sums) ≡ 32) ⌝ }
-    ensures { λ n. ⌜ Put (now (out .entry)) (now (out .exit)) 0 n (chosen (now (sums .entry)) valid (orderOf c)) ⌝ }
+    ensures { λ n. ⌜ Put (now (out .entry)) (now (out .exit)) 0 n (chosen (now (sums .entry)) valid (codesAround c)) ⌝ }
 {
     let w = around(c);
     let far = 31 - c;

@@ -5,7 +5,7 @@ use native.Mathlib.Omega.{arith}
 use lib.ListN.{length}
 use Rattle.table_blocks.specs.Blocks.{place}
 use Rattle.pattern_entry.specs.Entry.{bytesAt}
-use Rattle.pattern_catalog.specs.SlotRead.{slotRead, partOf}
+use Rattle.pattern_catalog.specs.SlotRead.{slotRead, sectionPart}
 use Rattle.pattern_catalog.specs.Claims.{SlotSaysOnce, PartFilled, PartEmpty}
 use Rattle.pattern_catalog.specs.declared.Slot.{Slot}
 use Rattle.pattern_entry.proofs.Bytes.{whole-at}
@@ -25,10 +25,10 @@ slot-says-once words s (Slot.Refused m) (Slot.Refused n) h = ap Slot.Refused (cc
 pub part-filled : PartFilled
 part-filled slots words packed s h =
     let i = read-place slots words packed s (place words s) (sym h) .2 in
-    let e : partOf packed (slotRead slots words packed s) ≡ bytesAt packed (place words s) = sym (ap (partOf packed) h) in
+    let e : sectionPart packed (slotRead slots words packed s) ≡ bytesAt packed (place words s) = sym (ap (sectionPart packed) h) in
     (e, ap length e ∙ whole-at packed (place words s) i)
 
 pub part-empty : PartEmpty
 part-empty slots words packed s Slot.Filled h k = absurd (k refl)
-part-empty slots words packed s Slot.Empty h k = sym (ap (partOf packed) h)
-part-empty slots words packed s (Slot.Refused n) h k = sym (ap (partOf packed) h)
+part-empty slots words packed s Slot.Empty h k = sym (ap (sectionPart packed) h)
+part-empty slots words packed s (Slot.Refused n) h k = sym (ap (sectionPart packed) h)

@@ -6,7 +6,7 @@ use lib.ListN.{length}
 use Rattle.table_blocks.specs.Blocks.{place}
 use Rattle.pattern_entry.specs.Entry.{bytesAt}
 use Rattle.pattern_catalog.specs.Answers.{slotSays}
-use Rattle.pattern_catalog.specs.SlotRead.{slotRead, partOf}
+use Rattle.pattern_catalog.specs.SlotRead.{slotRead, sectionPart}
 use Rattle.pattern_catalog.specs.declared.Slot.{Slot}
 
 -- ---- the slot read's two calls, proofs/Parts
@@ -18,9 +18,9 @@ SlotSaysOnce = (words : List ℕ) (s : ℕ) (a b : Slot) → slotSays words s a 
 -- Where `slot_of` says filled, the part is the 22 bytes at the slot's place: `part-filled`.
 abbrev pub PartFilled : Type 0
 PartFilled = (slots : ℕ) (words packed : List ℕ) (s : ℕ) → slotSays words s Slot.Filled ≡ slotRead slots words packed s
-    → (partOf packed (slotRead slots words packed s) ≡ bytesAt packed (place words s)) × (length (partOf packed (slotRead slots words packed s)) ≡ 22)
+    → (sectionPart packed (slotRead slots words packed s) ≡ bytesAt packed (place words s)) × (length (sectionPart packed (slotRead slots words packed s)) ≡ 22)
 
 -- Unless it says filled, the part is empty: `part-empty`.
 abbrev pub PartEmpty : Type 0
 PartEmpty = (slots : ℕ) (words packed : List ℕ) (s : ℕ) (r : Slot) → slotSays words s r ≡ slotRead slots words packed s
-    → (r ≡ Slot.Filled → ⊥) → partOf packed (slotRead slots words packed s) ≡ []
+    → (r ≡ Slot.Filled → ⊥) → sectionPart packed (slotRead slots words packed s) ≡ []

@@ -16,7 +16,7 @@ unfoldable pub slotRead : ℕ → List ℕ → List ℕ → ℕ → Answer
 slotRead slots words packed s = ask (tableFits slots words) (refused 6) (ask (ltb s slots) (refused 11) (slotIn words packed s))
 
 -- "hands back the entry's own 22 bytes of the lent section, or an empty part of it", "empty unless it says filled"
-abbrev pub partOf : List ℕ → Answer → List ℕ
-partOf packed (filledAt p) = bytesAt packed p
-partOf packed empty = []
-partOf packed (refused n) = []
+abbrev pub sectionPart : List ℕ → Answer → List ℕ
+sectionPart packed (filledAt p) = bytesAt packed p
+sectionPart packed empty = []
+sectionPart packed (refused n) = []

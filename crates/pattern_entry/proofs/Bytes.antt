@@ -7,7 +7,7 @@ use native.Mathlib.Nat.{add-assoc}
 use lib.ListN.{length, getD, take, drop, length-take, length-drop}
 use lib.Seq.{getD-take, getD-drop}
 use lib.Ieee.{Float}
-use Rattle.pattern_entry.specs.Entry.{bytesAt, halfAt, markOf, star}
+use Rattle.pattern_entry.specs.Entry.{bytesAt, halfAt, markIn, star}
 use Rattle.pattern_entry.specs.declared.PatternEntry.{PatternEntry}
 
 -- a byte past the end
@@ -32,7 +32,7 @@ unfolding bytesAt
 byte-at packed p k h = rw (getD-take, getD-drop)
 
 -- and so is its mark
-pub mark-is : (packed : List ℕ) (p : ℕ) → halfAt packed (p * 22 + 20) ≡ markOf (bytesAt packed p)
+pub mark-is : (packed : List ℕ) (p : ℕ) → halfAt packed (p * 22 + 20) ≡ markIn (bytesAt packed p)
 mark-is packed p =
     let a : getD (bytesAt packed p) 20 0 ≡ getD packed (p * 22 + 20) 0 = byte-at packed p 20 (omega arith) in
     let b : getD (bytesAt packed p) 21 0 ≡ getD packed (p * 22 + 20 + 1) 0 = byte-at packed p 21 (omega arith) ∙ ap (λ (i : ℕ). getD packed i 0) (sym (add-assoc (p * 22) 20 1)) in

@@ -29,13 +29,13 @@ abbrev pub star : ℕ → StarIndex
 star n = record { 0 = n }
 
 -- the mark: the last two bytes
-abbrev pub markOf : List ℕ → ℕ
-markOf e = halfAt e 20
+abbrev pub markIn : List ℕ → ℕ
+markIn e = halfAt e 20
 
 -- the entry that the bytes hold; the edge may be any pattern, a NaN's too
 abbrev pub entryRead : List ℕ → PatternEntry
 entryRead e = record {
   stars = star (wordAt e 0) ∷ star (wordAt e 4) ∷ star (wordAt e 8) ∷ star (wordAt e 12) ∷ [];
   edge = ofBits binary32 (wordAt e 16);
-  mark = markOf e;
+  mark = markIn e;
 }

@@ -2,7 +2,7 @@
 ghost use mathlib.Core.Path.{_≡_};
 ghost use Prim.Native.Nat.{_+_, _*_, _≤_, _<_};
 ghost use lib.ListN.{length, getD};
-ghost use Rattle.pattern_entry.specs.Entry.{wordAt, halfAt, markOf, entryRead, bytesAt};
+ghost use Rattle.pattern_entry.specs.Entry.{wordAt, halfAt, markIn, entryRead, bytesAt};
 use star_slice::StarIndex;
 
 // An entry of the packed section.
@@ -70,7 +70,7 @@ pub fn read_packed(e: &[u8]) -> PatternEntry
 // The mark of the entry at a place inside the section.
 pub fn mark_at(packed: &[u8], place: u64) -> u16
     requires { ⌜ place * 22 + 22 ≤ length (now packed) ⌝ }
-    ensures { λ r. ⌜ r ≡ markOf (bytesAt (now (packed .entry)) place) ⌝ }
+    ensures { λ r. ⌜ r ≡ markIn (bytesAt (now (packed .entry)) place) ⌝ }
 {
     let at = place as usize * 22 + 20;
     wide(packed[at]) + wide(packed[at + 1]) * 0x100

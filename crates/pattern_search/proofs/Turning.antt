@@ -30,7 +30,7 @@ use Rattle.undivided_run.specs.Exists.{Here}
 use Rattle.undivided_run.specs.Good.{goesOn}
 use Rattle.undivided_run.proofs.Turns.{good-after, good-room, turn-ends, turn-used, turn-refused, turn-hit, turn-passed}
 use Rattle.search_feed.specs.Data.{Data}
-use Rattle.search_feed.specs.Image.{keptPlaces, placeAt, passOf}
+use Rattle.search_feed.specs.Image.{keptPlaces, keptPlace, passOf}
 use Rattle.search_feed.specs.Feed.{feed, entryAt, slotAt, testedAt, ifHit, candidateOf, placesOf, hashOfRead, noCandidate}
 use Rattle.search_feed.specs.Look.{blank, placesIn, lookedOf, entryLook, lookIn}
 use Rattle.search_feed.proofs.Looks.{lookAt}
@@ -132,7 +132,7 @@ module _ (D : Data) (r : Position) (h : Held) (places : List ℕ) (measures : Li
   unfolding feed
   keys-few = subst (λ k. k ≤ 1024) (sym (o .held .count)) (keys-counted (D .frame) a (r .pass) (n .four .pass) (r .four) (n .four .rising) .1)
 
-  desk-place : (x : ℕ) → x < h .kept → getD places x 0 ≡ placeAt (D .frame) (r .pass) x
+  desk-place : (x : ℕ) → x < h .kept → getD places x 0 ≡ keptPlace (D .frame) (r .pass) x
   desk-place x l = sym (getD-take (h .kept) places x 0 l) ∙ ap (λ z. getD z x 0) (p .held .places-are)
 
   places-same : placesIn places (r .four) ≡ placesOf (D .frame) (r .pass) (r .four)

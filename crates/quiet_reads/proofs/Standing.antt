@@ -11,7 +11,7 @@ use lib.ListN.{getD}
 use lib.Ieee.{Float}
 use borrow.Author.Tests.{ltb-true, ltb-false}
 use Rattle.key_hash.specs.Key.{homeOf, markOf}
-use Rattle.pattern_entry.specs.Entry.{bytesAt, entryRead, markOf as markIn}
+use Rattle.pattern_entry.specs.Entry.{bytesAt, entryRead, markIn}
 use Rattle.sound_entries.specs.Sound.{entrySound}
 use Rattle.star_slice.proofs.Every.{both-l, both-r}
 use Rattle.table_blocks.specs.Blocks.{filled as slotFilled, place}

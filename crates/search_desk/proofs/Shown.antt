@@ -12,7 +12,7 @@ use Rattle.preprocess.specs.Vectors.{overNorm, unitOf, vectorOf}
 use Rattle.pattern.proofs.Same.{same-four}
 use Rattle.kept_angles.specs.Measures.{threeOf, directionAt, fourAt, Laid}
 use Rattle.search_feed.specs.Data.{Frame}
-use Rattle.search_feed.specs.Image.{spotOf, keptPlaces, placeAt, directionsOf}
+use Rattle.search_feed.specs.Image.{spotOf, keptPlaces, keptPlace, directionsOf}
 
 map-at : {A B : Type 0} (f : A → B) (xs : List A) (d : A) (e : B) (i : ℕ) → i < length xs → getD (map f xs) i e ≡ f (getD xs i d)
 map-at f [] d e i l = absurd (omega arith)
@@ -25,13 +25,13 @@ unfolding overNorm unitOf vectorOf
 spot-three F i p = refl
 
 -- the directions that thinning left, laid with their angles
-pub laid-directions : (F : Frame) (i n : ℕ) (dirs : List (List Float)) (m : List Float) → n ≡ length (keptPlaces F i) → take n dirs ≡ map (spotOf F i) (keptPlaces F i) → Laid dirs n m → (x : ℕ) → x < n → directionAt m x ≡ spotOf F i (placeAt F i x)
+pub laid-directions : (F : Frame) (i n : ℕ) (dirs : List (List Float)) (m : List Float) → n ≡ length (keptPlaces F i) → take n dirs ≡ map (spotOf F i) (keptPlaces F i) → Laid dirs n m → (x : ℕ) → x < n → directionAt m x ≡ spotOf F i (keptPlace F i x)
 laid-directions F i n dirs m c e l x p =
-    let s : getD dirs x [] ≡ spotOf F i (placeAt F i x) = sym (getD-take n dirs x [] p) ∙ ap (λ z. getD z x []) e ∙ map-at (spotOf F i) (keptPlaces F i) 0 [] x (omega arith) in
-    l .directions x p ∙ ap threeOf s ∙ spot-three F i (placeAt F i x)
+    let s : getD dirs x [] ≡ spotOf F i (keptPlace F i x) = sym (getD-take n dirs x [] p) ∙ ap (λ z. getD z x []) e ∙ map-at (spotOf F i) (keptPlaces F i) 0 [] x (omega arith) in
+    l .directions x p ∙ ap threeOf s ∙ spot-three F i (keptPlace F i x)
 
 -- four of them
-pub desk-directions : (F : Frame) (i n : ℕ) (m : List Float) → ((x : ℕ) → x < n → directionAt m x ≡ spotOf F i (placeAt F i x)) → (q : Four) → Rising n q → fourAt m q ≡ directionsOf F i q
+pub desk-directions : (F : Frame) (i n : ℕ) (m : List Float) → ((x : ℕ) → x < n → directionAt m x ≡ spotOf F i (keptPlace F i x)) → (q : Four) → Rising n q → fourAt m q ≡ directionsOf F i q
 unfolding directionsOf
 desk-directions F i n m d q r =
     same-four

@@ -12,7 +12,7 @@ use Rattle.search_feed.specs.Data.{Frame}
 use Rattle.pattern.specs.Sort.{sorted}
 use Rattle.pattern.specs.Edges.{ratiosOf}
 use Rattle.kept_angles.specs.Measures.{directionAt, AnglesHeld}
-use Rattle.search_feed.specs.Image.{keysIn, hashIn, spotOf, keptPlaces, placeAt, imageAt}
+use Rattle.search_feed.specs.Image.{keysIn, hashIn, spotOf, keptPlaces, keptPlace, imageAt}
 use Rattle.search_feed.specs.declared.SearchConfig.{SearchConfig}
 use Rattle.search_desk.specs.declared.Held.{Held}
 
@@ -36,7 +36,7 @@ emptyDesk =
 pub record PassHeld (F : Frame) (i n : ℕ) (places : List ℕ) (measures : List Float) : Type 0 where
   pub count : n ≡ length (keptPlaces F i)
   pub places-are : take n places ≡ keptPlaces F i
-  pub directions-are : (x : ℕ) → x < n → directionAt measures x ≡ spotOf F i (placeAt F i x)
+  pub directions-are : (x : ℕ) → x < n → directionAt measures x ≡ spotOf F i (keptPlace F i x)
   pub angles : AnglesHeld n measures
 
 -- the array holds the hashes of the keys of combination q of pass i, n of them; beside it stands what the frame shows of it

@@ -24,7 +24,7 @@ use Rattle.thinning.specs.Thinning.{crowded, thinned, keptOf}
 use Rattle.pattern.specs.Directions.{Direction, Directions}
 use Rattle.pattern.proofs.Edges.{edges-rise, directions-ratios}
 use Rattle.search_feed.specs.Data.{Frame}
-use Rattle.search_feed.specs.Image.{spotOf, keptPlaces, placeAt, directionsOf, imageOf}
+use Rattle.search_feed.specs.Image.{spotOf, keptPlaces, keptPlace, directionsOf, imageOf}
 use Rattle.search_feed.specs.Claims.{Asked5, KeptEdges}
 
 -- ---- kept places are places
@@ -42,7 +42,7 @@ all-at P [] d i h l = absurd (omega arith)
 all-at P (x ∷ xs) d zero h l = h .0
 all-at P (x ∷ xs) d (suc i) h l = all-at P xs d i (h .1) (omega arith)
 
-pub place-below : (F : Frame) (i x : ℕ) → x < length (keptPlaces F i) → placeAt F i x < length (F .order)
+pub place-below : (F : Frame) (i x : ℕ) → x < length (keptPlaces F i) → keptPlace F i x < length (F .order)
 unfolding keptPlaces keptOf
 place-below F i x l =
     all-at (λ p. p < length (F .order)) (keptPlaces F i) 0 x
@@ -78,8 +78,8 @@ module _ (F : Frame) (a : Asked5 F) (i : ℕ) (h : i < length (F .passes) / 3) w
       (places-have-centroids (F .order) (F .centroids) (record { 0 = p }) (a .three) l)
       (scale-of _ (passes-fitting (F .passes) (a .five) .scales i h)))
 
-  kept-small : (x : ℕ) → x < length (keptPlaces F i) → Direction (spotOf F i (placeAt F i x))
-  kept-small x l = spot-small (placeAt F i x) (place-below F i x l)
+  kept-small : (x : ℕ) → x < length (keptPlaces F i) → Direction (spotOf F i (keptPlace F i x))
+  kept-small x l = spot-small (keptPlace F i x) (place-below F i x l)
 
   pub directions-small : (q : Four) → Rising (length (keptPlaces F i)) q → Directions (directionsOf F i q)
   unfolding directionsOf

@@ -20,7 +20,7 @@ use Rattle.candidates.specs.declared.Tested.the-variants.{Over, Hit}
 use Rattle.undivided_run.specs.declared.Position.{Position}
 use Rattle.undivided_run.specs.Undivided.{Feed}
 use Rattle.search_feed.specs.Data.{Frame, Data}
-use Rattle.search_feed.specs.Image.{toleranceIn, keysIn, hashIn, passOf, keptPlaces, placeAt, imageAt}
+use Rattle.search_feed.specs.Image.{toleranceIn, keysIn, hashIn, passOf, keptPlaces, keptPlace, imageAt}
 
 abbrev pub placeOf : ℕ → Place
 placeOf p = record { 0 = p }
@@ -39,7 +39,7 @@ noCandidate =
 
 -- "The combination is given as four places in the brightness list"
 unfoldable pub placesOf : Frame → ℕ → Four → List Place
-placesOf F i q = placeOf (placeAt F i (q .a)) ∷ placeOf (placeAt F i (q .b)) ∷ placeOf (placeAt F i (q .c)) ∷ placeOf (placeAt F i (q .d)) ∷ []
+placesOf F i q = placeOf (keptPlace F i (q .a)) ∷ placeOf (keptPlace F i (q .b)) ∷ placeOf (keptPlace F i (q .c)) ∷ placeOf (keptPlace F i (q .d)) ∷ []
 
 -- the hash of the key that a read is of
 abbrev pub hashOfRead : Frame → Position → ℕ

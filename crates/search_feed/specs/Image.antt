@@ -45,12 +45,12 @@ module _ (F : Frame) where
   keptPlaces i = keptOf (passOf i .cosine) (spotOf i) (length (F .order)) (F .config .checking)
 
   -- position x of the kept list of pass i, as a place in the brightness list
-  abbrev pub placeAt : ℕ → ℕ → ℕ
-  placeAt i x = getD (keptPlaces i) x 0
+  abbrev pub keptPlace : ℕ → ℕ → ℕ
+  keptPlace i x = getD (keptPlaces i) x 0
 
   -- a combination's four directions
   unfoldable pub directionsOf : ℕ → Four → List (List Float)
-  directionsOf i q = spotOf i (placeAt i (q .a)) ∷ spotOf i (placeAt i (q .b)) ∷ spotOf i (placeAt i (q .c)) ∷ spotOf i (placeAt i (q .d)) ∷ []
+  directionsOf i q = spotOf i (keptPlace i (q .a)) ∷ spotOf i (keptPlace i (q .b)) ∷ spotOf i (keptPlace i (q .c)) ∷ spotOf i (keptPlace i (q .d)) ∷ []
 
   -- what the frame shows of a combination
   abbrev pub imageAt : ℕ → Four → Image

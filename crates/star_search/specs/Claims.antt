@@ -13,7 +13,7 @@ use Rattle.undivided_run.specs.Step.{start}
 use Rattle.search_feed.specs.Data.{Data, settingsOk}
 use Rattle.search_feed.specs.Feed.{feed}
 use Rattle.pattern_catalog.specs.Answers.{Answer}
-use Rattle.pattern_catalog.specs.SlotRead.{partOf}
+use Rattle.pattern_catalog.specs.SlotRead.{sectionPart}
 use Rattle.opening.specs.Opening.{opening}
 use Rattle.fov_sweep.specs.Sweep.{sweepFits}
 use Rattle.numbers_received.specs.Received.{optionOf, configOf, stateOf}
@@ -47,4 +47,4 @@ UnknownState = (D : Data) (s : StarState) → (2 < s .phase) ⊎ ((s .phase ≡ 
 
 -- Offset and length are the part that the slot read hands back: `part-as-numbers`.
 abbrev pub PartAsNumbers : Type 0
-PartAsNumbers = (packed : List ℕ) (a : Answer) → take (partNumbers a .length) (drop (partNumbers a .offset) packed) ≡ partOf packed a
+PartAsNumbers = (packed : List ℕ) (a : Answer) → take (partNumbers a .length) (drop (partNumbers a .offset) packed) ≡ sectionPart packed a

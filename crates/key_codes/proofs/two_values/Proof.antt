@@ -2,7 +2,7 @@ use Prim.Native.Nat.{ℕ}
 use mathlib.Core.Path.{_≡_, ap₂, _∙_}
 use Rattle.key_list.specs.Keys.{keysOf}
 use Rattle.key_codes.proofs.CodeKeys.{keysOfCodes}
-use Rattle.key_codes.specs.Order.{orderOf}
+use Rattle.key_codes.specs.Order.{codesAround}
 use Rattle.key_codes.proofs.Around.{order-rises}
 use Rattle.key_codes.proofs.ByCodes.{keys-by-codes}
 use Rattle.key_codes.proofs.Puts.{hashed}
@@ -29,9 +29,9 @@ returns c =
     let B = s .args .bins in
     let code = c .before .before .before .before .code-of in
     let valid = c .before .before .before .codes-in in
-    let same : keysOfCodes lo (valid .result) (orderOf (code .result)) ≡ keysOf (s .args .c) lo (s .args .hi)
-    = ap₂ (λ (v x : ℕ). keysOfCodes lo v (orderOf x)) (valid .ensures) (code .ensures .0) ∙ keys-by-codes (s .args .c) lo (s .args .hi) B (s .pre .0) in
-    let h = hashed lo B _ (valid .result) (code .result) 9223372036854775808 (c .before .before .before .before .before .fill .ensures) _ _ _ (orderOf (code .result)) (order-rises (code .result) (code .ensures .1)) (c .listed .ensures) in
+    let same : keysOfCodes lo (valid .result) (codesAround (code .result)) ≡ keysOf (s .args .c) lo (s .args .hi)
+    = ap₂ (λ (v x : ℕ). keysOfCodes lo v (codesAround x)) (valid .ensures) (code .ensures .0) ∙ keys-by-codes (s .args .c) lo (s .args .hi) B (s .pre .0) in
+    let h = hashed lo B _ (valid .result) (code .result) 9223372036854775808 (c .before .before .before .before .before .fill .ensures) _ _ _ (codesAround (code .result)) (order-rises (code .result) (code .ensures .1)) (c .listed .ensures) in
     rw same at h
 
 pub two-values-spec : {M : Type 1} → statement M

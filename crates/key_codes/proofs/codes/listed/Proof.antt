@@ -1,7 +1,7 @@
 use Prim.Native.Nat.{_-_}
 use mathlib.Core.List.{_++_}
 use lib.ListN.{getD}
-use Rattle.key_codes.specs.Order.{unpack, orderOf}
+use Rattle.key_codes.specs.Order.{unpack, codesAround}
 use Rattle.key_codes.proofs.Puts.{put-chain}
 use borrow.Author.Needs.{needs}
 use Rattle.key_codes.proofs.codes.listed.Statement.{statement}
@@ -44,7 +44,7 @@ add-requires-6 : tie.Need-add-requires-6
 add-requires-6 c κs = search needs
 
 returns : tie.Need-returns
-unfolding orderOf
+unfolding codesAround
 returns c =
     let s = c .before .before .before .before .before .before .before .before .before .before .before .before .before in
     let a = s .args .sums .now in
