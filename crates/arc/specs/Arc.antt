@@ -36,14 +36,14 @@ bend z =
 abbrev pub bent : Float → Float → Float
 bent x z = add binary32 x (mul binary32 x (bend z))
 
--- z from 0.5 on: (1 - h) * 0.5
+-- z, for h from 0.5 on: (1 - h) * 0.5
 abbrev pub halfBelow : Float → Float
 halfBelow h = mul binary32 (sub binary32 one32 h) half32
 
--- from 0.5 on
+-- P - 2 * (s + s * R(z)), s the root of z
 unfoldable pub nearOne : Float → Float
 nearOne h = sub binary32 quarterTurn (mul binary32 two32 (bent (rootOf (halfBelow h)) (halfBelow h)))
 
--- the arc of h, by its three pieces
+-- The arc of h, by its three pieces. Below 0 it is h too, and above 1 and of a NaN it is a NaN; no half distance of a search lies there.
 unfoldable pub arcOf : Float → Float
 arcOf h = cond (lt h tiny) h (cond (lt h half32) (bent h (mul binary32 h h)) (nearOne h))

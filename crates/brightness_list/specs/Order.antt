@@ -29,6 +29,6 @@ unfoldable pub orderFits : List ℕ → List Float → Bool
 unfolding allBelow noneTwice
 orderFits order c = allBelow (length c / 2) order && noneTwice order
 
--- the centroid at a place of the brightness list
+-- the centroid at a place of the brightness list; a place past the list reads as centroid 0, and questions 8 and 14 refuse what has such a one
 unfoldable pub centroidOf : List ℕ → Place → CentroidIndex
 centroidOf order p = record { 0 = getD order (p .0) 0 }

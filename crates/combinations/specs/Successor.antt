@@ -1,4 +1,5 @@
--- ".. the next combination worked out from the present one." `WalksFours` of Claims.antt says that this walks the list of fours. Definitions only.
+-- ".. the next combination worked out from the present one." `WalksFours` of Claims.antt says that this walks the list of fours. A difference stops at 0.
+-- Definitions only.
 use Prim.Native.Nat.{ℕ, suc, _+_, _-_, _*_, max}
 use mathlib.Core.Bool.{cond}
 use mathlib.Core.Option.{Option, none, some}
@@ -8,18 +9,19 @@ use Rattle.combinations.specs.declared.MaybeFour.{MaybeFour}
 use Rattle.combinations.specs.declared.MaybeFour.the-variants.{Next, Nothing}
 
 -- Of the fours below n with the sum s that begin with a and b: the first whose third is at least c, where there is one.
+-- The fourth is s - (a + b + x), which is below n from the third x = s + 1 - (a + b + n) on.
 unfoldable pub withC : ℕ → ℕ → ℕ → ℕ → ℕ → Four
 withC n s a b c =
     let x = max c (s + 1 - (a + b + n)) in
     record { a = a; b = b; c = x; d = s - (a + b + x) }
 
--- .. that begin with a: the first whose second is at least b
+-- .. that begin with a: the first whose second is at least b. Third and fourth add up to at most (n - 2) + (n - 1), so the second is at least s + 3 - (a + 2 n).
 unfoldable pub withB : ℕ → ℕ → ℕ → ℕ → Four
 withB n s a b =
     let x = max b (s + 3 - (a + 2 * n)) in
     withC n s a x (suc x)
 
--- .. the first whose first is at least a
+-- .. the first whose first is at least a. The other three add up to at most (n - 3) + (n - 2) + (n - 1), so the first is at least s + 6 - 3 n.
 unfoldable pub withA : ℕ → ℕ → ℕ → Four
 withA n s a =
     let x = max a (s + 6 - 3 * n) in
@@ -29,7 +31,8 @@ withA n s a =
 unfoldable pub fromSum : ℕ → ℕ → Option Four
 fromSum n s = cond (leb (max s 6 + 10) (4 * n)) (some (withA n (max s 6) 0)) none
 
--- The first at sum s from a, from (a, b), from (a, b, c) on, or at a later sum.
+-- The first at sum s from a, from (a, b), from (a, b, c) on, or at a later sum. There is one at s where the least sum with that first
+-- (second, third), the positions after it following one by one, is at most s.
 unfoldable pub fromA : ℕ → ℕ → ℕ → Option Four
 fromA n s a = cond (leb (4 * max a (s + 6 - 3 * n) + 6) s) (some (withA n s a)) (fromSum n (suc s))
 

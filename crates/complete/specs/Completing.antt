@@ -15,10 +15,11 @@ use Rattle.image_vectors.specs.Vectors.{scaleOf, imageVectors, matchedOf}
 use Rattle.complete.specs.declared.Completed.{Completed}
 use Rattle.complete.specs.Answers.{Answer, vectors, refused, completedAs}
 
--- "Completing: 1, 2, 3, 5, 7, then 14 .., then 9 for its stars."
+-- the last three questions: 7, 14, then 9
 unfoldable pub lastAsked : Bool → Bool → Bool → Answer → Answer
 lastAsked seven fourteen nine given = ask seven (refused 7) (ask fourteen (refused 14) (ask nine (refused 9) given))
 
+-- "Completing: 1, 2, 3, 5, 7, then 14 .., then 9 for its stars."
 unfoldable pub completing : List Float → List ℕ → List Float → List Float → Candidate → Float → Answer
 completing centroids order passes stars candidate scale =
     ask (centroidsFit centroids) (refused 1)

@@ -49,10 +49,11 @@ unfoldable pub outward : List ℕ → List (List ℕ) → ℕ → List (List ℕ
 outward c ks zero = []
 outward c ks (suc d) = outward c ks d ++ flat (atDistance c d) ks
 
--- how far a part in its range is from c at most, and so a key in the ranges
+-- the largest squared difference of a part in its range from that of c
 unfoldable pub farther : ℕ → List ℕ → List ℕ → List ℕ → ℕ
 farther i c lo hi = max (apart (getD c i 0) (getD lo i 0)) (apart (getD c i 0) (getD hi i 0))
 
+-- no key in the ranges is at a larger squared distance from c
 unfoldable pub farthest : List ℕ → List ℕ → List ℕ → ℕ
 farthest c lo hi = farther 0 c lo hi + farther 1 c lo hi + farther 2 c lo hi + farther 3 c lo hi + farther 4 c lo hi
 

@@ -1,7 +1,7 @@
 -- What a passed opening check gives every later read of the table. Assumes nothing.
 use Prim.Native.Nat.{ℕ, _+_, _-_, _*_, _/_, _%_, _^_, _≤_, _<_}
 use mathlib.Core.Path.{_≡_, refl, sym, ap, _∙_}
-use mathlib.Core.Bool.{Bool, true, false, _&&_}
+use mathlib.Core.Bool.{Bool, true, false, cond, _&&_}
 use mathlib.Core.List.{List}
 use mathlib.Core.Option.{Option, none, some}
 use native.Mathlib.Omega.{arith}
@@ -45,7 +45,7 @@ passed slots words packed stars h =
     go true true true false x w y z e = let n : _≡_ {A = ℕ} 0 1 = cc in absurd (omega arith)
     go true true true true x w y z e = record { fits = x; sky = w; index = y; sound = z }
 
-if-filled : (b x : Bool) → b ≡ true → ask b true x ≡ true → x ≡ true
+if-filled : (b x : Bool) → b ≡ true → cond b x true ≡ true → x ≡ true
 if-filled true x f e = e
 if-filled false x f e = cc
 

@@ -1,7 +1,7 @@
 -- What the loops and the branches of the opening check cite: after question 10 the packed entries are the filled slots' in order. Assumes nothing.
 use Prim.Native.Nat.{ℕ, zero, suc, _+_, _-_, _*_, _/_, _%_, _≤_, _<_}
 use mathlib.Core.Path.{_≡_, refl, sym, ap, ap₂, _∙_}
-use mathlib.Core.Bool.{Bool, true, false, _&&_}
+use mathlib.Core.Bool.{Bool, true, false, cond, _&&_}
 use mathlib.Core.List.{List}
 use mathlib.Core.Option.{none, some}
 use native.Mathlib.Omega.{arith}
@@ -10,7 +10,7 @@ use borrow.Author.Tests.{eq-eqb, ne-eqb, eqb-true, le-leb}
 use lib.Dec.{eqb}
 use lib.ListN.{length}
 use lib.Ieee.{Float}
-use Rattle.star_slice.specs.Ask.{ask, every}
+use Rattle.star_slice.specs.Ask.{every}
 use Rattle.table_blocks.specs.Blocks.{blocksOf, tableFits, bitAt, filled, onesIn, rankOf, place}
 use Rattle.star_slice.specs.Stars.{starsFit, starCount}
 use Rattle.pattern_entry.specs.Entry.{bytesAt, inSection}
@@ -96,7 +96,7 @@ pub right-ranks : (words : List ℕ) (blocks n : ℕ) → ranksRead words blocks
 unfolding ranksRead
 right-ranks words blocks n h = by-test (every blocks (rankRight words)) h
   where
-    by-test : (b : Bool) → ask b Ranks.Wrong (Ranks.Right (onesIn words 0 (blocks * 448))) ≡ Ranks.Right n → b ≡ true
+    by-test : (b : Bool) → cond b (Ranks.Right (onesIn words 0 (blocks * 448))) Ranks.Wrong ≡ Ranks.Right n → b ≡ true
     by-test true e = refl
     by-test false e = let z : _≡_ {A = ℕ} 0 1 = cc in absurd (omega arith)
 
@@ -104,7 +104,7 @@ pub right-total : (words : List ℕ) (blocks n : ℕ) → ranksRead words blocks
 unfolding ranksRead
 right-total words blocks n h = by-test (every blocks (rankRight words)) h
   where
-    by-test : (b : Bool) → ask b Ranks.Wrong (Ranks.Right (onesIn words 0 (blocks * 448))) ≡ Ranks.Right n → n ≡ onesIn words 0 (blocks * 448)
+    by-test : (b : Bool) → cond b (Ranks.Right (onesIn words 0 (blocks * 448))) Ranks.Wrong ≡ Ranks.Right n → n ≡ onesIn words 0 (blocks * 448)
     by-test true e = cc
     by-test false e = let z : _≡_ {A = ℕ} 0 1 = cc in absurd (omega arith)
 
@@ -112,7 +112,7 @@ wrong-ranks : (words : List ℕ) (blocks : ℕ) → ranksRead words blocks ≡ R
 unfolding ranksRead
 wrong-ranks words blocks h = by-test (every blocks (rankRight words)) h
   where
-    by-test : (b : Bool) → ask b Ranks.Wrong (Ranks.Right (onesIn words 0 (blocks * 448))) ≡ Ranks.Wrong → b ≡ false
+    by-test : (b : Bool) → cond b (Ranks.Right (onesIn words 0 (blocks * 448))) Ranks.Wrong ≡ Ranks.Wrong → b ≡ false
     by-test true e = let z : _≡_ {A = ℕ} 0 1 = cc in absurd (omega arith)
     by-test false e = refl
 
@@ -196,16 +196,16 @@ and-true true = refl
 and-true false = refl
 
 -- question 9 over the filled slots is question 9 over that many entries
-counted : (words : List ℕ) (g : ℕ → Bool) (n : ℕ) → every n (λ s. ask (filled words s) true (g (onesIn words 0 s))) ≡ every (onesIn words 0 n) g
+counted : (words : List ℕ) (g : ℕ → Bool) (n : ℕ) → every n (λ s. cond (filled words s) (g (onesIn words 0 s)) true) ≡ every (onesIn words 0 n) g
 unfolding every onesIn
 counted words g zero = refl
 counted words g (suc n) =
-    ap (λ (b : Bool). b && ask (filled words n) true (g (onesIn words 0 n))) (counted words g n)
+    ap (λ (b : Bool). b && cond (filled words n) (g (onesIn words 0 n)) true) (counted words g n)
     ∙ by-bit (bitAt words n) refl
     ∙ ap (λ (m : ℕ). every (onesIn words 0 n + bitAt words m) g) (sym (zero-add n))
   where
     by-bit : (b : ℕ) → bitAt words n ≡ b
-        → (every (onesIn words 0 n) g && ask (filled words n) true (g (onesIn words 0 n))) ≡ every (onesIn words 0 n + bitAt words n) g
+        → (every (onesIn words 0 n) g && cond (filled words n) (g (onesIn words 0 n)) true) ≡ every (onesIn words 0 n + bitAt words n) g
     by-bit zero e = rw (e, add-zero) (and-true (every (onesIn words 0 n) g))
     by-bit (suc zero) e = rw e (sym (every-suc (onesIn words 0 n) g))
     by-bit (suc (suc b)) e = absurd (omega (arith, bit-le words n))
@@ -216,12 +216,12 @@ pub scan :
 unfolding allSound inSection
 scan slots words packed stars right =
     every-same slots (slotSound words packed stars)
-    (λ s. ask (filled words s) true (entrySound stars (bytesAt packed (onesIn words 0 s)))) (λ s h. at s h (filled words s) refl)
+    (λ s. cond (filled words s) (entrySound stars (bytesAt packed (onesIn words 0 s))) true) (λ s h. at s h (filled words s) refl)
     ∙ counted words (λ p. entrySound stars (bytesAt packed p)) slots
     ∙ ap (λ (n : ℕ). every n (λ p. entrySound stars (bytesAt packed p))) many
   where
     at : (s : ℕ) → s < slots → (b : Bool) → filled words s ≡ b
-        → slotSound words packed stars s ≡ ask (filled words s) true (entrySound stars (bytesAt packed (onesIn words 0 s)))
+        → slotSound words packed stars s ≡ cond (filled words s) (entrySound stars (bytesAt packed (onesIn words 0 s))) true
     at s h true f =
         rw (f, place-is slots words packed right s h)
         (simp (le-leb (onesIn words 0 s * 22 + 22) (length packed) (entry-in slots words packed right s h f)))

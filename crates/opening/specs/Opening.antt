@@ -1,6 +1,6 @@
 -- The opening check. Definitions only. Document 01: "The opening check goes through 6, 7, 10, then 9 over all filled slots."
 use Prim.Native.Nat.{ℕ, _+_, _-_, _*_}
-use mathlib.Core.Bool.{Bool, true, _&&_}
+use mathlib.Core.Bool.{Bool, true, cond, _&&_}
 use mathlib.Core.List.{List}
 use mathlib.Core.Option.{Option, none, some}
 use lib.Dec.{eqb}
@@ -29,7 +29,7 @@ indexRight slots words packed =
 -- Question 9 at a slot: if it is filled, its entry lies inside the section and is sound
 abbrev pub slotSound : List ℕ → List ℕ → List Float → ℕ → Bool
 slotSound words packed stars s =
-    ask (filled words s) true (inSection packed (place words s) && entrySound stars (bytesAt packed (place words s)))
+    cond (filled words s) (inSection packed (place words s) && entrySound stars (bytesAt packed (place words s))) true
 
 -- the number of the first question whose answer is no; none where the table passes
 unfoldable pub opening : ℕ → List ℕ → List ℕ → List Float → Option ℕ

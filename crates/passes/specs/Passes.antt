@@ -20,10 +20,11 @@ scaleFits x = lt zero32 x && le x (ofBits binary32 0x4180_0000)
 unfoldable pub cosineFits : Float → Bool
 cosineFits x = le (neg one32) x && le x one32
 
+-- a pass that question 5 lets through
 unfoldable pub passFits : Pass → Bool
 passFits p = fieldFits (p .field) && (scaleFits (p .scale) && cosineFits (p .cosine))
 
--- the i-th triple (field, scale, cosine)
+-- the i-th triple (field, scale, cosine); a number past the slice reads as NaNs, and questions 8 and 14 refuse what has such a one
 unfoldable pub passAt : List Float → ℕ → Pass
 passAt passes i = record { field = getD passes (i * 3) nan; scale = getD passes (i * 3 + 1) nan; cosine = getD passes (i * 3 + 2) nan }
 

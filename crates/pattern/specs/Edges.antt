@@ -57,6 +57,7 @@ shares e =
     ∷ div binary32 (getD e 4 nan) (getD e 5 nan)
     ∷ []
 
+-- five ratios that are 0
 abbrev pub noughts : List Float
 noughts = zero32 ∷ zero32 ∷ zero32 ∷ zero32 ∷ zero32 ∷ []
 

@@ -1,7 +1,7 @@
 -- Laws of the slot read: what each way through the code answers, and what a filled answer gives. Assumes nothing.
 use Prim.Native.Nat.{ℕ, _+_, _*_, _/_, _≤_, _<_}
 use mathlib.Core.Path.{_≡_, refl}
-use mathlib.Core.Bool.{Bool, true, false}
+use mathlib.Core.Bool.{Bool, true, false, cond}
 use mathlib.Core.List.{List}
 use native.Mathlib.Omega.{arith}
 use borrow.Author.Tests.{lt-ltb, le-ltb, le-leb, lt-leb, ltb-true, ltb-false, leb-true, eqb-true}
@@ -59,7 +59,7 @@ module _ (words packed : List ℕ) (s : ℕ) where
   in-place p h = go (filled words s) (inSection packed (place words s)) refl refl h
     where
       go : (c d : Bool) → filled words s ≡ c → inSection packed (place words s) ≡ d
-          → ask c empty (ask d (refused 9) (filledAt (place words s))) ≡ filledAt p
+          → cond c (ask d (refused 9) (filledAt (place words s))) empty ≡ filledAt p
           → (filled words s ≡ true) × (p ≡ place words s) × (p * 22 + 22 ≤ length packed)
       go false d f k e = let z : _≡_ {A = ℕ} 0 1 = cc in absurd (omega arith)
       go true false f k e = let z : _≡_ {A = ℕ} 0 1 = cc in absurd (omega arith)

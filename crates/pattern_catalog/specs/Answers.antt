@@ -11,7 +11,7 @@ pub data Answer : Type 0 where
   empty : Answer
   refused : ℕ → Answer
 
--- what `find` and `find_in` say
+-- what `find`, `find_in` and `find_near` say
 abbrev pub foundSays : Found → Answer
 foundSays (Found.At p) = filledAt p
 foundSays Found.Empty = empty

@@ -1,4 +1,4 @@
--- Document 01's case: "Rank 5, first word binary 1011: slot 3 at place 7, slot 2 empty." Definitions only.
+-- Document 01's case, "Rank 5, first word binary 1011: slot 3 at place 7, slot 2 empty.", and one of a damaged rank. Definitions only.
 use Prim.Native.Nat.{ℕ}
 use mathlib.Core.Path.{_≡_}
 use mathlib.Core.List.{List, [], _∷_}
@@ -14,7 +14,7 @@ ranked rank = rank ∷ 0b1011 ∷ 0 ∷ 0 ∷ 0 ∷ 0 ∷ 0 ∷ 0 ∷ []
 unfoldable pub eight : List ℕ
 eight = replicate 176 0
 
--- the case: `rank-five`
+-- document 01's case: `rank-five`
 abbrev pub RankFive : Type 0
 RankFive = (slotRead 448 (ranked 5) eight 3 ≡ filledAt 7) × (slotRead 448 (ranked 5) eight 2 ≡ empty)
 

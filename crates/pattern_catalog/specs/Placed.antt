@@ -11,6 +11,6 @@ abbrev pub foundBy : Ranked → Answer
 foundBy (Ranked.Inside p) = filledAt p
 foundBy Ranked.Outside = refused 9
 
--- the place of slot `from`, below m, is known unless that slot lies past slot s
+-- where slot `from` is not past slot s, `there` is its place, and that is below m
 abbrev pub PlaceKnown : List ℕ → ℕ → ℕ → ℕ → ℕ → Type 0
 PlaceKnown words m s from there = from ≤ s → (there ≡ place words from) × (there < m)

@@ -1,5 +1,6 @@
 -- The slot read. Definitions only. Document 01: "The slot read: 6, then 11 (is the slot below the slot count?), then 9 for the section only."
 use Prim.Native.Nat.{ℕ}
+use mathlib.Core.Bool.{cond}
 use mathlib.Core.List.{List, []}
 use lib.Dec.{ltb}
 use Rattle.star_slice.specs.Ask.{ask}
@@ -9,7 +10,7 @@ use Rattle.pattern_catalog.specs.Answers.{Answer, filledAt, empty, refus
 
 -- the read of a slot that exists: an empty slot is empty, and a filled one's entry is asked 9 for the section
 unfoldable pub slotIn : List ℕ → List ℕ → ℕ → Answer
-slotIn words packed s = ask (filled words s) empty (ask (inSection packed (place words s)) (refused 9) (filledAt (place words s)))
+slotIn words packed s = cond (filled words s) (ask (inSection packed (place words s)) (refused 9) (filledAt (place words s))) empty
 
 -- the slot read, whatever is lent
 unfoldable pub slotRead : ℕ → List ℕ → List ℕ → ℕ → Answer

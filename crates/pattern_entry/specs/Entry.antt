@@ -10,7 +10,7 @@ use Rattle.float.specs.Bytes.{wordOf}
 use Rattle.star_slice.specs.declared.StarIndex.{StarIndex}
 use Rattle.pattern_entry.specs.declared.PatternEntry.{PatternEntry}
 
--- the 22 bytes of the entry at a place of the packed section
+-- the 22 bytes of the entry at a place of the packed section; fewer where the section ends before
 unfoldable pub bytesAt : List ℕ → ℕ → List ℕ
 bytesAt packed p = take 22 (drop (p * 22) packed)
 
@@ -25,6 +25,7 @@ wordAt e at = wordOf (getD e at 0 ∷ getD e (at + 1) 0 ∷ getD e (at + 2) 0 �
 abbrev pub halfAt : List ℕ → ℕ → ℕ
 halfAt e at = getD e at 0 + getD e (at + 1) 0 * 0x100
 
+-- a star index
 abbrev pub star : ℕ → StarIndex
 star n = record { 0 = n }
 

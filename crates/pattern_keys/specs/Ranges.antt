@@ -7,6 +7,7 @@ use Rattle.float_order.specs.KeyPart.{lowOf, highOf}
 use Rattle.key_hash.specs.Key.{keyOf}
 use Rattle.key_list.specs.Keys.{keysOf}
 
+-- what f makes of each of five ratios
 abbrev pub five : (Float → ℕ) → List Float → List ℕ
 five f r = f (getD r 0 nan) ∷ f (getD r 1 nan) ∷ f (getD r 2 nan) ∷ f (getD r 3 nan) ∷ f (getD r 4 nan) ∷ []
 

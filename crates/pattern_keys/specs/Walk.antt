@@ -6,7 +6,7 @@ use lib.ListN.{length, getD}
 use Rattle.key_hash.specs.Key.{hashOf}
 use Rattle.key_list.specs.Keys.{flat, spread, far}
 
--- the keys that k is with a part set to each value of its range that is not below the part before it, and all parts after that one too
+-- the key k with its last part (last two, ..) set in every way that stays in the ranges and never falls
 unfoldable pub fifth : List ℕ → List ℕ → List ℕ → List (List ℕ)
 fifth lo hi k = spread 3 4 (getD lo 4 0) (getD hi 4 0) k
 

@@ -22,7 +22,7 @@ pub record Scale (s : Float) : Type 0 where
   pub above : T (lt zero32 s)
   pub most : T (le s (fin false 1 (pos 4)))
 
--- A unit vector's components are finite: x and y of magnitude at most 2 ^ 20, z above 0 and at most 1.
+-- A unit vector's components are finite: x and y of magnitude at most 2 ^ 20, z from 2 ^ -20 to 1.
 pub record UnitVector (v : List Float) : Type 0 where
   pub x : In (fin true 1 (pos 20)) (fin false 1 (pos 20)) (getD v 0 nan)
   pub y : In (fin true 1 (pos 20)) (fin false 1 (pos 20)) (getD v 1 nan)

@@ -16,10 +16,11 @@ use Rattle.search_feed.specs.Image.{keysIn, hashIn, spotOf, keptPlaces, keptPla
 use Rattle.search_feed.specs.declared.SearchConfig.{SearchConfig}
 use Rattle.search_desk.specs.declared.Held.{Held}
 
--- the desk that nothing lies on: all zero
+-- what an empty desk shows: all zero
 unfoldable pub noImage : Image
 noImage = record { edge = zero32; ratios = zero32 ∷ zero32 ∷ zero32 ∷ zero32 ∷ zero32 ∷ [] }
 
+-- the desk that nothing lies on: all zero
 unfoldable pub emptyDesk : Held
 emptyDesk =
     record {
@@ -54,7 +55,7 @@ abbrev pub FourBy : Bool → Frame → Held → List ℕ → Type 0
 FourBy true F h hashes = FourHeld F (h .pass) (h .four) (h .keys) (h .image) hashes
 FourBy false F h hashes = Unit {0}
 
--- the arrays of a pass
+-- the arrays of a pass: 64 places; and 2208 = 64·3 + 64·63/2 numbers, the directions and an angle for each two
 pub record PassDesk (F : Frame) (h : Held) (places : List ℕ) (measures : List Float) : Type 0 where
   pub pass : PassBy (h .passed) F h places measures
   pub places-long : length places ≡ 64

@@ -3,7 +3,7 @@ use mathlib.Core.Path.{_≡_, refl, sym, ap, _∙_, subst}
 use Prim.Native.Nat.{ℕ, _+_, _*_, _%_, _≤_, _<_}
 use native.Mathlib.Omega.{arith}
 use native.Mathlib.Nat.{mul-le-mul, mod-lt, mod-eq-of-lt}
-use mathlib.Core.Bool.{Bool, true, false}
+use mathlib.Core.Bool.{Bool, true, false, cond}
 use mathlib.Core.List.{List}
 use lib.ListN.{length, take, drop, length-take, length-drop}
 use lib.Ieee.{Float}
@@ -68,7 +68,7 @@ module _ (words packed : List ℕ) (s : ℕ) where
   unfolding slotIn
   is-empty h = go (filled words s) (inSection packed (place words s)) h
     where
-      go : (c d : Bool) → ask c empty (ask d (refused 9) (filledAt (place words s))) ≡ empty → c ≡ false
+      go : (c d : Bool) → cond c (ask d (refused 9) (filledAt (place words s))) empty ≡ empty → c ≡ false
       go false d e = refl
       go true false e = absurd (let z : _≡_ {A = ℕ} 0 1 = cc in omega arith)
       go true true e = absurd (let z : _≡_ {A = ℕ} 0 1 = cc in omega arith)
@@ -77,7 +77,7 @@ module _ (words packed : List ℕ) (s : ℕ) where
   unfolding slotIn
   is-refused n h = go (filled words s) (inSection packed (place words s)) h
     where
-      go : (c d : Bool) → ask c empty (ask d (refused 9) (filledAt (place words s))) ≡ refused n → (c ≡ true) × (d ≡ false)
+      go : (c d : Bool) → cond c (ask d (refused 9) (filledAt (place words s))) empty ≡ refused n → (c ≡ true) × (d ≡ false)
       go false d e = absurd (let z : _≡_ {A = ℕ} 0 1 = cc in omega arith)
       go true false e = (refl, refl)
       go true true e = absurd (let z : _≡_ {A = ℕ} 0 1 = cc in omega arith)

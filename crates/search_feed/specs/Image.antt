@@ -27,7 +27,7 @@ toleranceIn c = toleranceOf (c .matching) (c .error) (c .bins)
 unfoldable pub keysIn : SearchConfig → Image → List (List ℕ)
 keysIn c m = keysFor (m .ratios) (toleranceIn c) (c .bins)
 
--- the hash of the k-th key
+-- the hash of the k-th key; a number past the list reads as a key of zeros, and question 8 refuses such a state
 unfoldable pub hashIn : SearchConfig → Image → ℕ → ℕ
 hashIn c m k = hashOf (getD (keysIn c m) k []) (c .bins)
 
@@ -44,7 +44,7 @@ module _ (F : Frame) where
   unfoldable pub keptPlaces : ℕ → List ℕ
   keptPlaces i = keptOf (passOf i .cosine) (spotOf i) (length (F .order)) (F .config .checking)
 
-  -- position x of the kept list of pass i, as a place in the brightness list
+  -- position x of the kept list of pass i, as a place in the brightness list; a position past the list reads as place 0, and question 8 refuses such a state
   abbrev pub keptPlace : ℕ → ℕ → ℕ
   keptPlace i x = getD (keptPlaces i) x 0
 

@@ -40,6 +40,7 @@ pub enum Seen {
     Found,
 }
 
+// What one read sees, and the candidate that it gives; where it gives none, that is all zero.
 pub struct Sight {
     pub seen: Seen,
     pub candidate: Candidate,

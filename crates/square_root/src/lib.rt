@@ -26,7 +26,7 @@ fn search(n: u64) -> u64
 }
 
 // The root of t from a guess y at 1 / √t, by a step of Newton's method and then two terms of a series.
-// Nothing is ensured of it.
+// 0.703952253 and 2.38924456 are the guess's own constants, chosen for a small error. Nothing is ensured of it.
 fn polish(t: f64, y: f64) -> f64 {
     let z = 0.703952253 * y * (2.38924456 - t * y * y);
     let s = t * z;
@@ -46,7 +46,8 @@ fn digits(s: f64) -> u64
     }
 }
 
-// A guess at the root of m * 2^23 or, where p is 1, of m * 2^24. Nothing is ensured of it but its range.
+// A guess at the root of m * 2^23 or, where p is 1, of m * 2^24: half of t's pattern off 0x5fe3ffff20000000, a constant chosen like those of
+// `polish`, is about that of 1 / √t. Nothing is ensured of it but its range.
 fn guess(m: u64, p: u64) -> u64
     requires { ⌜ (8388608 ≤ m) × (m < 16777216) × (p < 2) ⌝ }
     ensures { λ r. ⌜ r < 16777216 ⌝ }
