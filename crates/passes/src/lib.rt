@@ -32,7 +32,7 @@ pub fn scale_fits(x: f32) -> bool
 }
 
 // Whether a cosine is from -1 to 1.
-pub fn cosine_fits(x: f32) -> bool
+fn cosine_fits(x: f32) -> bool
     ensures { λ r. ⌜ r ≡ cosineFits x ⌝ }
 {
     if -1.0 <= x {
@@ -43,7 +43,7 @@ pub fn cosine_fits(x: f32) -> bool
 
 impl Pass {
     // Whether the pass lies within question 5's limits.
-    pub fn fits(self) -> bool
+    fn fits(self) -> bool
         ensures { λ r. ⌜ r ≡ passFits self ⌝ }
     {
         if !field_fits(self.field) {

@@ -60,7 +60,7 @@ pub fn around(home: u64, c: u32, slots: u64) -> u64
 }
 
 // The slot of probe number c of the key with this hash: (home + c·c) modulo the slot count.
-pub fn slot_of_probe(hash: u64, c: u32, slots: u64) -> u64
+fn slot_of_probe(hash: u64, c: u32, slots: u64) -> u64
     requires { ⌜ (0 < slots) × (slots ≤ 16777216) × (c < slots) ⌝ }
     ensures { λ r. ⌜ (r ≡ (homeOf hash slots + c * c) % slots) × (r < slots) ⌝ }
 {

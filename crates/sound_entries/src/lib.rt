@@ -10,7 +10,7 @@ use star_slice::StarIndex;
 use star_slice::star_sound;
 
 // Question 9 for an entry's bytes: whole, and its four stars sound.
-pub fn entry_sound(stars: &[f32], e: &[u8]) -> bool
+fn entry_sound(stars: &[f32], e: &[u8]) -> bool
     ensures { λ r. ⌜ r ≡ entrySound (now (stars .entry)) (now (e .entry)) ⌝ }
 {
     if e.len() != 22 {

@@ -7,7 +7,7 @@ ghost use Rattle.star_directions.specs.Held.{StarsHeld};
 use star_slice::StarIndex;
 
 // The direction of a star.
-pub fn star_vector(stars: &[f32], i: StarIndex) -> [f32; 3]
+fn star_vector(stars: &[f32], i: StarIndex) -> [f32; 3]
     requires { ⌜ i .0 * 3 + 2 < length (now stars) ⌝ }
     ensures { λ r. ⌜ r ≡ starOf (now (stars .entry)) i ⌝ }
 {

@@ -24,7 +24,7 @@ pub fn table_fits(slots: u64, words: &[u64]) -> bool
 }
 
 // Bit b of a word, the lowest being 0.
-pub fn bit(w: u64, b: u32) -> bool
+fn bit(w: u64, b: u32) -> bool
     requires { ⌜ b < 64 ⌝ }
     ensures { λ r. ⌜ r ≡ eqb (w / 2 ^ b % 2) 1 ⌝ }
 {
