@@ -15,7 +15,7 @@ use lib.Seq.{drop-cons, getD-set-same, getD-set-other}
 use Rattle.preprocess.specs.Questions.{centroidsFit}
 use Rattle.brightness_list.specs.Order.{orderFits, allBelow, among, noneTwice}
 use Rattle.brightness_list.specs.Order.{centroidOf}
-use Rattle.preprocess.proofs.Coordinates.{left, right}
+use Rattle.preprocess.proofs.Coordinates.{both-l, both-r}
 use Rattle.brightness_list.specs.Claims.{PlacesHaveCentroids, PlacesAtMost256}
 
 -- ---- the definitions at a list from an index on
@@ -129,7 +129,7 @@ left-start s h = record { short = omega arith; before = []; marks = no-marks; sa
 
 module _ (s : List ℕ) (seen : List Bool) (i : ℕ) (l : Left s seen i) (h : i < length s) where
   pub element-small : getD s i 0 < 256
-  element-small = ltb-true (getD s i 0) 256 (left (ltb (getD s i 0) 256) (allBelow 256 (drop (i + 1) s)) (sym (below-step s i 256 h) ∙ l .small))
+  element-small = ltb-true (getD s i 0) 256 (both-l (ltb (getD s i 0) 256) (allBelow 256 (drop (i + 1) s)) (sym (below-step s i 256 h) ∙ l .small))
 
   new-step : newOnes (l .before) (drop i s) ≡ (not (among (getD s i 0) (l .before)) && newOnes (getD s i 0 ∷ l .before) (drop (i + 1) s))
   unfolding newOnes
@@ -145,7 +145,7 @@ module _ (s : List ℕ) (seen : List Bool) (i : ℕ) (l : Left s seen i) (h : i 
         before = getD s i 0 ∷ l .before;
         marks = marked seen (l .before) (getD s i 0) element-small (l .marks);
         same = l .same ∙ new-step ∙ (rw (sym (l .marks .says (getD s i 0) element-small) ∙ t));
-        small = right (ltb (getD s i 0) 256) (allBelow 256 (drop (i + 1) s)) (sym (below-step s i 256 h) ∙ l .small);
+        small = both-r (ltb (getD s i 0) 256) (allBelow 256 (drop (i + 1) s)) (sym (below-step s i 256 h) ∙ l .small);
       }
 
 pub left-end : (s : List ℕ) (seen : List Bool) (i : ℕ) → Left s seen i → length s ≤ i → noneTwice s ≡ true
@@ -157,20 +157,20 @@ pub below-wider : (n m : ℕ) (xs : List ℕ) → n ≤ m → allBelow n xs ≡ 
 unfolding allBelow
 below-wider n m [] h t = refl
 below-wider n m (x ∷ xs) h t =
-    let k = ltb-true x n (left (ltb x n) (allBelow n xs) t) in
-    rw (lt-ltb x m (omega arith)) (below-wider n m xs h (right (ltb x n) (allBelow n xs) t))
+    let k = ltb-true x n (both-l (ltb x n) (allBelow n xs) t) in
+    rw (lt-ltb x m (omega arith)) (below-wider n m xs h (both-r (ltb x n) (allBelow n xs) t))
 
 -- ---- a list that passes
 pub below-at : (n : ℕ) (xs : List ℕ) (k : ℕ) → allBelow n xs ≡ true → k < length xs → getD xs k 0 < n
 unfolding allBelow
 below-at n [] k t h = absurd (omega arith)
-below-at n (x ∷ xs) zero t h = ltb-true x n (left (ltb x n) (allBelow n xs) t)
-below-at n (x ∷ xs) (suc k) t h = below-at n xs k (right (ltb x n) (allBelow n xs) t) (omega arith)
+below-at n (x ∷ xs) zero t h = ltb-true x n (both-l (ltb x n) (allBelow n xs) t)
+below-at n (x ∷ xs) (suc k) t h = below-at n xs k (both-r (ltb x n) (allBelow n xs) t) (omega arith)
 
 pub places-have-centroids : PlacesHaveCentroids
 unfolding orderFits centroidOf
 places-have-centroids order c p t h =
-    let b = below-at (length c / 2) order (p .0) (left (allBelow (length c / 2) order) (noneTwice order) t) h in
+    let b = below-at (length c / 2) order (p .0) (both-l (allBelow (length c / 2) order) (noneTwice order) t) h in
     omega (arith, div-add-mod' (length c) 2)
 
 -- the list without n
@@ -190,7 +190,7 @@ without-below : (n : ℕ) (xs : List ℕ) → allBelow (suc n) xs ≡ true → a
 unfolding without allBelow
 without-below n [] t = refl
 without-below n (x ∷ xs) t =
-    by (eqb x n) refl (ltb-true x (suc n) (left (ltb x (suc n)) (allBelow (suc n) xs) t)) (without-below n xs (right (ltb x (suc n)) (allBelow (suc n) xs) t))
+    by (eqb x n) refl (ltb-true x (suc n) (both-l (ltb x (suc n)) (allBelow (suc n) xs) t)) (without-below n xs (both-r (ltb x (suc n)) (allBelow (suc n) xs) t))
   where
     by : (b : Bool) → eqb x n ≡ b → x < suc n → allBelow n (without n xs) ≡ true → allBelow n (cond b (without n xs) (x ∷ without n xs)) ≡ true
     by true e h ih = ih
@@ -209,7 +209,7 @@ without-among n x (y ∷ ys) t = by (eqb y n) (eqb y x) refl t (λ u. without-am
 without-twice : (n : ℕ) (xs : List ℕ) → noneTwice xs ≡ true → noneTwice (without n xs) ≡ true
 unfolding without noneTwice
 without-twice n [] t = refl
-without-twice n (x ∷ xs) t = by (eqb x n) (without-twice n xs (right (not (among x xs)) (noneTwice xs) t)) (without-among n x xs (not-true (among x xs) (left (not (among x xs)) (noneTwice xs) t)))
+without-twice n (x ∷ xs) t = by (eqb x n) (without-twice n xs (both-r (not (among x xs)) (noneTwice xs) t)) (without-among n x xs (not-true (among x xs) (both-l (not (among x xs)) (noneTwice xs) t)))
   where
     by : (b : Bool) → noneTwice (without n xs) ≡ true → among x (without n xs) ≡ false → noneTwice (cond b (without n xs) (x ∷ without n xs)) ≡ true
     by true ih a = ih
@@ -227,7 +227,7 @@ without-none n (x ∷ xs) t = by (eqb x n) t (λ u. without-none n xs u)
 without-length : (n : ℕ) (xs : List ℕ) → noneTwice xs ≡ true → length xs ≤ suc (length (without n xs))
 unfolding without noneTwice
 without-length n [] t = omega arith
-without-length n (x ∷ xs) t = by (eqb x n) refl (without-length n xs (right (not (among x xs)) (noneTwice xs) t)) (not-true (among x xs) (left (not (among x xs)) (noneTwice xs) t))
+without-length n (x ∷ xs) t = by (eqb x n) refl (without-length n xs (both-r (not (among x xs)) (noneTwice xs) t)) (not-true (among x xs) (both-l (not (among x xs)) (noneTwice xs) t))
   where
     by : (b : Bool) → eqb x n ≡ b → length xs ≤ suc (length (without n xs)) → among x xs ≡ false → suc (length xs) ≤ suc (length (cond b (without n xs) (x ∷ without n xs)))
     by true e ih a = omega (arith, without-none n xs (rw (eqb-true x n e) at a))
@@ -237,13 +237,13 @@ without-length n (x ∷ xs) t = by (eqb x n) refl (without-length n xs (right (n
 pub different-at-most : (n : ℕ) (xs : List ℕ) → allBelow n xs ≡ true → noneTwice xs ≡ true → length xs ≤ n
 unfolding allBelow
 different-at-most zero [] t u = omega arith
-different-at-most zero (x ∷ xs) t u = absurd (let h = ltb-true x 0 (left (ltb x 0) (allBelow 0 xs) t) in omega arith)
+different-at-most zero (x ∷ xs) t u = absurd (let h = ltb-true x 0 (both-l (ltb x 0) (allBelow 0 xs) t) in omega arith)
 different-at-most (suc n) xs t u =
     omega (arith, without-length n xs u, different-at-most n (without n xs) (without-below n xs t) (without-twice n xs u))
 
 pub places-at-most-256 : PlacesAtMost256
 unfolding centroidsFit orderFits
 places-at-most-256 order c t u =
-    let h = different-at-most (length c / 2) order (left (allBelow (length c / 2) order) (noneTwice order) u) (right (allBelow (length c / 2) order) (noneTwice order) u) in
-    let k = leb-true (length c) 512 (right (eqb (length c % 2) 0) (leb (length c) 512) t) in
+    let h = different-at-most (length c / 2) order (both-l (allBelow (length c / 2) order) (noneTwice order) u) (both-r (allBelow (length c / 2) order) (noneTwice order) u) in
+    let k = leb-true (length c) 512 (both-r (eqb (length c % 2) 0) (leb (length c) 512) t) in
     omega (arith, div-add-mod' (length c) 2)

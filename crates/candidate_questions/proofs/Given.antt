@@ -1,14 +1,14 @@
 -- What a yes to question 14, and to question 9 for the four stars, gives. Assumes nothing.
-use mathlib.Core.Path.{_≡_, refl}
+use mathlib.Core.Path.{_≡_}
 use Prim.Native.Nat.{ℕ, _/_, _<_}
-use native.Mathlib.Omega.{arith}
-use mathlib.Core.Bool.{Bool, true, false, _&&_}
+use mathlib.Core.Bool.{true}
 use mathlib.Core.List.{List}
 use borrow.Author.Tests.{ltb-true}
 use lib.Dec.{ltb}
 use lib.ListN.{length, getD}
 use lib.Ieee.{Float}
 use Rattle.passes.specs.Passes.{scaleFits}
+pub use Rattle.star_slice.proofs.Every.{both}
 use Rattle.star_slice.specs.declared.StarIndex.{StarIndex}
 use Rattle.star_slice.specs.Stars.{starSound}
 use Rattle.star_slice.proofs.Sound.{sound-star}
@@ -16,11 +16,6 @@ use Rattle.star_directions.specs.Directions.{noStar}
 use Rattle.star_directions.specs.Held.{StarsHeld}
 use Rattle.candidates.specs.declared.Candidate.{Candidate}
 use Rattle.candidate_questions.specs.Questions.{placesRise, candidateFits, fourSound}
-
--- both of two tests
-pub both : (a b : Bool) → (a && b) ≡ true → (a ≡ true) × (b ≡ true)
-both true b h = (refl, h)
-both false b h = absurd (let z : _≡_ {A = ℕ} 0 1 = cc in omega arith)
 
 -- what a yes to question 14 gives
 module _ (order : List ℕ) (passes : List Float) (candidate : Candidate) (scale : Float) (h : candidateFits order passes candidate scale ≡ true) where

@@ -1,28 +1,21 @@
 -- The whole sweep from its parts: question 12, the count, the list written. Assumes nothing.
-use mathlib.Core.Path.{_≡_, refl, _∙_, ap}
+use mathlib.Core.Path.{_≡_, _∙_, ap}
 use Prim.Native.Nat.{ℕ, _+_, _≤_, _<_, min}
 use native.Mathlib.Omega.{arith}
-use mathlib.Core.Bool.{Bool, true, false, _&&_}
+use mathlib.Core.Bool.{true, false, _&&_}
 use mathlib.Core.List.{List, _∷_, _++_}
 use borrow.Author.Tests.{le-leb, lt-leb}
 use lib.ListN.{length, drop}
 use lib.Ieee.{Float, lt}
 use lib.Ieee.Scale.{finite}
 use Rattle.float_order.specs.Value.{zero32, pi32}
+use Rattle.float_order.proofs.Tests.{both-l, both-r}
 use Rattle.tolerance.specs.Tolerances.{optionFits}
 use Rattle.tolerance.specs.declared.Tolerance.{Tolerance}
 use Rattle.fov_sweep.specs.Sweep.{pairsFrom, sweepOf, sweepFits, listFits, sweptOf, laterOf}
 use Rattle.fov_sweep.specs.Reach.{reachOf}
 use Rattle.fov_sweep.proofs.Offsets.{beside-reach}
 use Rattle.fov_sweep.specs.declared.Swept.the-variants.{Values, Refused}
-
-left : (a b : Bool) → (a && b) ≡ true → a ≡ true
-left true b e = refl
-left false b e = e
-
-right : (a b : Bool) → (a && b) ≡ true → b ≡ true
-right true b e = e
-right false b e = cc
 
 module _ (estimate : Float) (error : Tolerance) (step : Float) (d : List Float) where
   pub refused-12 : sweepFits estimate error step ≡ false → (Refused 12 ≡ sweptOf estimate error step (length d)) × (d ≡ laterOf estimate error step d)
@@ -35,7 +28,7 @@ module _ (estimate : Float) (error : Tolerance) (step : Float) (d : List Float) 
     step-above =
         let a = lt zero32 estimate && lt estimate pi32 in
         let b = finite step && lt zero32 step in
-        right (finite step) (lt zero32 step) (right a b (left (a && b) (optionFits error) fits))
+        both-r (finite step) (lt zero32 step) (both-r a b (both-l (a && b) (optionFits error) fits))
 
     -- the list that the code goes through is the sweep
     list-is : (k : ℕ) → estimate ∷ pairsFrom k estimate reach step step ≡ sweepOf k estimate error step

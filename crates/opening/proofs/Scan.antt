@@ -1,7 +1,7 @@
 -- What the loops and the branches of the opening check cite: after question 10 the packed entries are the filled slots' in order. Assumes nothing.
 use Prim.Native.Nat.{ℕ, zero, suc, _+_, _-_, _*_, _/_, _%_, _≤_, _<_}
 use mathlib.Core.Path.{_≡_, refl, sym, ap, ap₂, _∙_}
-use mathlib.Core.Bool.{Bool, true, false, cond, _&&_}
+use mathlib.Core.Bool.{Bool, true, false, cond, _&&_, and-true}
 use mathlib.Core.List.{List}
 use mathlib.Core.Option.{none, some}
 use native.Mathlib.Omega.{arith}
@@ -190,10 +190,6 @@ module _ (slots : ℕ) (words packed : List ℕ) (right : indexRight slots words
       ap (onesIn words 0) (sym e) ∙ ones-join words 0 (s + 1) (slots - (s + 1)) in
       let l = held-is in
       omega arith
-
-and-true : (a : Bool) → (a && true) ≡ a
-and-true true = refl
-and-true false = refl
 
 -- question 9 over the filled slots is question 9 over that many entries
 counted : (words : List ℕ) (g : ℕ → Bool) (n : ℕ) → every n (λ s. cond (filled words s) (g (onesIn words 0 s)) true) ≡ every (onesIn words 0 n) g

@@ -1,20 +1,17 @@
 -- What question 5 gives each pass. Assumes nothing.
-use mathlib.Core.Path.{_≡_, refl, sym, subst}
+use mathlib.Core.Path.{_≡_, sym, subst}
 use Prim.Native.Nat.{ℕ, zero, suc, _/_, _%_, _≤_, _<_}
 use native.Mathlib.Omega.{arith}
 use mathlib.Core.Logic.{inl, inr}
 use native.Mathlib.Nat.{eq-or-lt-of-le}
-use mathlib.Core.Bool.{Bool, true, false, _&&_}
+use mathlib.Core.Bool.{Bool, true, false}
 use mathlib.Core.List.{List}
 use lib.Dec.{leb, eqb}
 use lib.ListN.{length}
 use lib.Ieee.{Float}
 use borrow.Author.Tests.{leb-true, eq-eqb, ne-eqb, le-leb, lt-leb}
+use Rattle.float_order.proofs.Tests.{both}
 use Rattle.passes.specs.Passes.{fieldFits, scaleFits, cosineFits, passFits, passAt, firstFit, passesFit}
-
-both : (a b : Bool) → a && b ≡ true → (a ≡ true) × (b ≡ true)
-both true b h = (refl, h)
-both false b h = absurd (let z : _≡_ {A = ℕ} 0 1 = cc in omega arith)
 
 -- one that does not fit is among any more
 pub first-fails : (ps : List Float) (i n : ℕ) → firstFit ps i ≡ true → passFits (passAt ps i) ≡ false → i < n → false ≡ firstFit ps n

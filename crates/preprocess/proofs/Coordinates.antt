@@ -13,18 +13,10 @@ use lib.Seq.{drop-cons}
 use lib.Ieee.{Float, nan, inf, fin, le, neg, ofBits}
 use lib.Ieee.Fits.{and-l, and-r, and-i}
 use Rattle.float.specs.Magnitude.{magnitudeOf}
+pub use Rattle.float_order.proofs.Tests.{both-l, both-r}
 use Rattle.float_order.proofs.Order.{le→below, below→le, holds}
 use Rattle.preprocess.specs.Questions.{farthest, coordinateFits, coordinatesFit}
 use Rattle.preprocess.specs.Claims.{Coordinate}
-
--- both of two tests
-pub left : (a b : Bool) → (a && b) ≡ true → a ≡ true
-left true b e = refl
-left false b e = e
-
-pub right : (a b : Bool) → (a && b) ≡ true → b ≡ true
-right true b e = e
-right false b e = cc
 
 -- two tests that hold together are equal
 same : (a b : Bool) → (T a → T b) → (T b → T a) → a ≡ b
@@ -68,8 +60,8 @@ coordinate-in x h =
 pub coordinates-at : (c : List Float) (k : ℕ) → coordinatesFit c ≡ true → k < length c → Coordinate (getD c k nan)
 unfolding coordinatesFit
 coordinates-at [] k h l = absurd (omega arith)
-coordinates-at (x ∷ c) zero h l = coordinate-in x (left (coordinateFits x) (coordinatesFit c) h)
-coordinates-at (x ∷ c) (suc k) h l = coordinates-at c k (right (coordinateFits x) (coordinatesFit c) h) (omega arith)
+coordinates-at (x ∷ c) zero h l = coordinate-in x (both-l (coordinateFits x) (coordinatesFit c) h)
+coordinates-at (x ∷ c) (suc k) h l = coordinates-at c k (both-r (coordinateFits x) (coordinatesFit c) h) (omega arith)
 
 -- ---- the scan
 module _ (s : List Float) (i : ℕ) where

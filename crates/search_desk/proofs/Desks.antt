@@ -2,12 +2,13 @@
 use mathlib.Core.Path.{_≡_, refl, ap, _∙_, subst}
 use Prim.Native.Nat.{ℕ, _/_, _≤_, _<_}
 use native.Mathlib.Omega.{arith}
-use mathlib.Core.Bool.{Bool, true, false, _&&_}
+use mathlib.Core.Bool.{true, false}
 use mathlib.Core.List.{List}
 use lib.Dec.{eqb}
 use lib.ListN.{length, length-take}
 use lib.Ieee.{Float}
 use borrow.Author.Tests.{eqb-true, eq-eqb, ne-eqb}
+use Rattle.float_order.proofs.Tests.{both}
 use Rattle.combinations.specs.declared.Four.{Four}
 use Rattle.combinations.specs.Fours.{sameFour, Rising}
 use Rattle.passes.specs.declared.Pass.{Pass}
@@ -44,10 +45,6 @@ module _ (q p : Four) where
       pub by-d : q .c ≡ p .c → eqb (q .d) (p .d) ≡ sameFour q p
       unfolding sameFour
       by-d c = rw (eq-eqb _ _ a, eq-eqb _ _ b, eq-eqb _ _ c)
-
-both : (a b : Bool) → a && b ≡ true → (a ≡ true) × (b ≡ true)
-both true b h = (refl, h)
-both false b h = absurd (let z : _≡_ {A = ℕ} 0 1 = cc in omega arith)
 
 pub same-is : (q p : Four) → sameFour q p ≡ true → q ≡ p
 unfolding sameFour

@@ -1,14 +1,15 @@
 -- The kept spots of a pass, past questions 1 to 5: their places lie in the brightness list, and their directions give edges and ratios. Assumes nothing.
-use mathlib.Core.Path.{_≡_, refl}
+use mathlib.Core.Path.{_≡_}
 use Prim.Native.Nat.{ℕ, zero, suc, _/_, _≤_, _<_}
 use native.Mathlib.Omega.{arith}
-use mathlib.Core.Bool.{Bool, true, false, cond, _&&_}
+use mathlib.Core.Bool.{Bool, true, false, cond}
 use mathlib.Core.List.{List, [], _∷_, map}
 use lib.IntN.{pos}
 use lib.ListN.{length, getD, length-take}
 use lib.Ieee.{Float, fin, ofBits, le, lt}
 use Rattle.float_order.specs.Value.{zero32}
 use Rattle.float_order.specs.Ratios.{Ratios}
+use Rattle.float_order.proofs.Tests.{both}
 use Rattle.float_order.proofs.Order.{holds}
 use Rattle.float_order.proofs.Intervals.{in-wider}
 use Rattle.combinations.specs.declared.Four.{Four}
@@ -55,10 +56,6 @@ unfolding keptPlaces keptOf
 kept-few F i = omega (arith, length-take (F .config .checking) (thinned (passAt (F .passes) i .cosine) (spotOf F i) (length (F .order))))
 
 -- ---- directions
-both : (a b : Bool) → a && b ≡ true → (a ≡ true) × (b ≡ true)
-both true b h = (refl, h)
-both false b h = absurd (let z : _≡_ {A = ℕ} 0 1 = cc in omega arith)
-
 scale-of : (x : Float) → scaleFits x ≡ true → Scale x
 unfolding scaleFits ofBits
 scale-of x h = let p = both (lt zero32 x) (le x (fin false 1 (pos 4))) h in record { above = holds _ (p .0); most = holds _ (p .1) }

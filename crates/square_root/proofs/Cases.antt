@@ -1,7 +1,7 @@
 -- What `root`'s tests say of x, and `rootOf` where no root is worked out. Assumes nothing.
-use mathlib.Core.Path.{_≡_, refl, sym, ap, _∙_, subst}
+use mathlib.Core.Path.{_≡_, refl, sym, _∙_, subst}
 use Prim.Native.Nat.{ℕ, zero, suc, _*_, _<_, zero-le}
-use native.Mathlib.Nat.{le-of-eq, lt-of-le-of-lt, lt-of-lt-of-le, lt-irrefl, zero-mul, zero-lt-suc, mul-pos}
+use native.Mathlib.Nat.{le-of-eq, lt-of-le-of-lt, lt-of-lt-of-le, lt-irrefl, zero-lt-suc, mul-pos}
 use mathlib.Core.Bool.{Bool, true, false, not, _&&_, _||_, Bool·beq, true≢false, false≢true}
 use lib.IntN.{ℤ}
 use lib.Dec.{T, ltb, eqb, ltb→lt, lt→ltb, eqb→eq}
@@ -12,13 +12,11 @@ use lib.Ieee.Positive.{positive, first-pos}
 use Rattle.square_root.specs.Root.{rootOf}
 use Rattle.square_root.specs.Best.{nought}
 use Rattle.square_root.proofs.Patterns.{below-inf, above-nothing}
+use Rattle.square_root.proofs.Laws.{or-r, none}
 
 -- a test that came out true passes
 holds : {b : Bool} → b ≡ true → T b
 holds e = subst T (sym e) tt
-
-none : (u d : ℕ) → 0 * u * d ≡ 0
-none u d = ap (λ (x : ℕ). x * d) (zero-mul u) ∙ zero-mul d
 
 size-pos : (m : ℕ) (e : ℤ) → 0 < suc m * up e * 1
 size-pos m e = mul-pos (mul-pos (zero-lt-suc m) (up-pos e)) (zero-lt-suc 0)
@@ -51,10 +49,6 @@ root-zero (fin s zero e) a = refl
 root-zero (fin s (suc m) e) a =
     absurd (lt-irrefl 0 (lt-of-lt-of-le (size-pos m e)
     (le-of-eq (eqb→eq (suc m * up e * 1) (0 * 1 * down e) (and-l (eqb (suc m * up e * 1) (0 * 1 * down e)) (Bool·beq s false || eqb (suc m * up e * 1) 0) (holds a)) ∙ none 1 (down e)))))
-
-or-r : (a b : Bool) → T b → T (a || b)
-or-r true b t = tt
-or-r false b t = t
 
 nought-is : (s : Bool) (e : ℤ) → eq (fin s zero e) nought ≡ true
 unfolding eq

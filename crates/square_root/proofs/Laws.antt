@@ -40,11 +40,11 @@ or-l : (a b : Bool) → T a → T (a || b)
 or-l true b t = tt
 or-l false b t = absurd t
 
-or-r : (a b : Bool) → T b → T (a || b)
+pub or-r : (a b : Bool) → T b → T (a || b)
 or-r true b t = tt
 or-r false b t = t
 
-none : (u d : ℕ) → 0 * u * d ≡ 0
+pub none : (u d : ℕ) → 0 * u * d ≡ 0
 none u d = ap (λ (x : ℕ). x * d) (zero-mul u) ∙ zero-mul d
 
 some : (m : ℕ) (e d : ℤ) → 0 < suc m * up e * down d
