@@ -1,7 +1,7 @@
 -- Sets of codes as words, and tests of all 32 codes that antt computes. Assumes nothing.
 use mathlib.Core.Path.{_≡_, refl, sym, ap, _∙_, subst}
 use mathlib.Core.Logic.{inl, inr}
-use mathlib.Core.Bool.{Bool, true, false, cond}
+use mathlib.Core.Bool.{Bool, true, false}
 use mathlib.Core.List.{List}
 use Prim.Native.Nat.{ℕ, zero, suc, _/_, _%_, _^_, _<_}
 use native.Mathlib.Omega.{arith}
@@ -29,9 +29,6 @@ both-right false b t = absurd t
 pub both-of : (a b : Bool) → T a → T b → T (both a b)
 both-of true b s t = t
 both-of false b s t = absurd s
-
-pub never : false ≡ true → ⊥
-never e = subst (λ (b : Bool). T (cond b false true)) e tt
 
 abbrev pub implies : Bool → Bool → Bool
 implies true b = b
