@@ -77,7 +77,7 @@ enum {
     STAR_TOO_FEW = 0,      /* the last pass kept fewer than 4 spots; earlier passes may have been read */
     STAR_NO_MATCH = 1,     /* the last pass kept 4 or more, and no read is left (with no slots or a pattern count of 0 there was none);
                               candidates may have been given before */
-    STAR_TIMEOUT = 2       /* the cap on combinations was reached */
+    STAR_TIMEOUT = 2       /* the cap on combinations was reached with a pass or a combination still to come */
 };
 
 /* StarAnswer.answer */
@@ -102,8 +102,8 @@ enum {
 };
 
 /* Where a search stands between two calls. All zero is a fresh state. A host keeps it, copies it or stores it as it likes; nothing
- * in it points anywhere. Fields that a phase doesn't use are ignored, and are 0 in every state that a call makes; a refused call gives back
- * the state as received, byte for byte. */
+ * in it points anywhere. Fields that a phase doesn't use are ignored, and are 0 in every state that a call gives back unless it is refused,
+ * also where it made no read; a refused call gives back the state as received, byte for byte. */
 typedef struct StarState {
     uint32_t phase;        /* STAR_FRESH, STAR_AT, STAR_OVER */
     uint32_t status;       /* of an ended state: STAR_TOO_FEW, STAR_NO_MATCH, STAR_TIMEOUT */
@@ -236,8 +236,8 @@ StarPart star_entry(uint64_t slots,
                     uint64_t slot);
 
 /* The fields of view to try around an estimate, all in radians: the estimate, then estimate + offset and, if above 0,
- * estimate - offset, for offsets a step apart up to the error; the list ends where estimate + offset reaches the f32 pi, and is the
- * estimate alone where the error is absent or not above 0. They are written to `out` from its start, and nothing after them.
+ * estimate - offset, for offsets a step apart up to the error; the list ends where estimate + offset reaches the f32 pi, or where
+ * offset + step, rounded, is no larger than offset, and is the estimate alone where the error is absent or not above 0. They are written to `out` from its start, and nothing after them.
  * error_given: 1: `error` is given; 0: there is none; any other number is refused with 12. */
 StarSwept star_sweep(float estimate, uint32_t error_given, float error, float step,
                      float *out, size_t out_length);

@@ -249,7 +249,7 @@ static void table_calls(void)
     slot = star_slot(SLOTS, words, 7, packed, 22, 5);
     EXPECT(slot.answer == STAR_SLOT_REFUSED && slot.number == 6);
 
-    /* a place past 2^32 bytes keeps all its bits: rank 3 in a section of 4 entries */
+    /* the offset is counted in bytes: rank 3 in a section of 4 entries */
     static uint8_t four[88];
     uint64_t ranked[8] = {3, 1u << 5, 0, 0, 0, 0, 0, 0};
     part = star_entry(SLOTS, ranked, 8, four, 88, 5);

@@ -29,7 +29,8 @@ impl<'s> Candidates<'s> {
         Candidates { table, frame, settings, state, left: allowance, over: false, ended: None }
     }
 
-    /// How the search ended; none as long as a read is left, and after a refusal.
+    /// How the search ended, once a call has said so: none as long as a read is left, right after a candidate on the last read, and after a
+    /// refusal.
     pub fn ended(&self) -> Option<Status> {
         self.ended
     }

@@ -41,8 +41,8 @@
 //! # Ok::<(), star_search::Refusal>(())
 //! ```
 //!
-//! A call needs up to 64 KiB of stack, far below what Rust gives a thread. The floating-point control register must be as Rust
-//! programs have it, which is the only thing that a caller could spoil.
+//! Two things are left to the caller: a call needs up to 64 KiB of stack, far below what Rust gives a thread that isn't made smaller, and
+//! the floating-point control register must be as Rust programs have it.
 
 #![deny(unsafe_code)]
 #![warn(missing_docs)]
@@ -72,7 +72,8 @@ pub struct Table<'a> {
     pub stars: &'a [[f32; 3]],
 }
 
-/// A table that passed the opening check: from a fresh state, no search on it is refused by the questions 6 to 9.
+/// A table that passed the opening check: a list of calls from a fresh state that are all lent the same frame and settings is never refused
+/// by the questions 6 to 9.
 #[derive(Clone, Copy, Debug)]
 pub struct OpenTable<'a>(Table<'a>);
 
@@ -134,11 +135,11 @@ pub enum Answer {
 /// How a search ended.
 #[derive(Clone, Copy, Debug, PartialEq, Eq, Hash)]
 pub enum Status {
-    /// Fewer than 4 spots were kept.
+    /// The last pass kept fewer than 4 spots; earlier passes may have been read.
     TooFew,
-    /// All was read.
+    /// The last pass kept 4 or more, and no read is left; a table with no slots or a pattern count of 0 has none.
     NoMatch,
-    /// The cap on combinations was reached.
+    /// The cap on combinations was reached with a pass or a combination still to come.
     Timeout,
 }
 
@@ -299,7 +300,9 @@ impl Candidate {
 }
 
 /// The fields of view to try around an estimate, all in radians: the estimate, then estimate + offset and, if above 0,
-/// estimate - offset, for offsets a step apart up to the error. They are written from the start of `out`, and handed back.
+/// estimate - offset, for offsets a step apart up to the error. The list ends where estimate + offset reaches the f32 pi, or where offset +
+/// step, rounded, is no larger than offset; it is the estimate alone without an error or with one not above 0. The values are written from the
+/// start of `out`, and handed back.
 ///
 /// A refused call (questions 12 and 13) leaves `out` as it was.
 ///

@@ -1,7 +1,7 @@
 //! The C interface as include/star_search.h has it, and the only `unsafe` code of the package.
 //!
 //! Each function here is safe: it lends slices, which are sound pointers with their lengths, to a function of the archive that has an
-//! answer for any values in them. So a caller owes nothing.
+//! answer for any values in them. A caller owes only what the package's own page says: room on the stack, and the control register.
 
 use crate::Pass;
 

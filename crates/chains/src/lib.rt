@@ -7,7 +7,7 @@ ghost use lib.ListN.{length};
 ghost use Rattle.table_blocks.specs.Blocks.{tableFits, place};
 ghost use Rattle.pattern_entry.specs.Entry.{bytesAt};
 ghost use Rattle.pattern_catalog.specs.Placed.{PlaceKnown};
-ghost use Rattle.chains.specs.Glances.{SoundBelow, askedStars, passesBy, glanceOf};
+ghost use Rattle.chains.specs.Glances.{SoundBelow, allowedStars, askedStars, passesBy, glanceOf};
 ghost use Rattle.chains.specs.Chains.{along};
 use pattern_catalog::Found;
 
@@ -31,13 +31,24 @@ pub struct Along {
     pub left: u64,
 }
 
-// What a call knows of the star slice: whether it was asked, and so many stars from the first on that are sound.
+// What a call knows of the star slice: so many stars from the first on that are sound, and whether no more are to be asked.
 pub struct Known {
     pub asked: bool,
     pub sound: u32,
 }
 
-// Asks question 9 of every star once, when a call has made a 32nd as many reads as there are stars: asking them all costs about as much as so many reads.
+// How many of n stars a call may have asked once it has made so many reads: 32 for each, which takes about half as long as the read.
+fn reach(n: usize, made: u64) -> usize
+    requires { ⌜ n ≤ 1048576 ⌝ }
+    ensures { λ r. ⌜ (r ≡ allowedStars n made) × (r ≤ n) ⌝ }
+{
+    if made < (n / 32) as u64 {
+        return made as usize * 32;
+    }
+    n
+}
+
+// Asks question 9 of the stars from the first on, each once, as far as the reads that a call has made allow.
 pub fn ask_stars(stars: &[f32], known: Known, made: u64) -> Known
     requires { ⌜ length (now stars) ≤ 3145728 ⌝ }
     ensures { λ r. ⌜ r ≡ askedStars (now (stars .entry)) known made ⌝ }
@@ -46,18 +57,22 @@ pub fn ask_stars(stars: &[f32], known: Known, made: u64) -> Known
         return known;
     }
     let n = stars.len() / 3;
-    if made < (n / 32) as u64 {
+    let from = known.sound as usize;
+    let to = reach(n, made);
+    if to <= from {
         return known;
     }
-    if star_slice::every_star_sound(stars) {
+    let a = from * 3;
+    let b = to * 3;
+    if star_slice::every_star_sound(&stars[a..b]) {
         return Known {
-            asked: true,
-            sound: n as u32,
+            asked: to == n,
+            sound: to as u32,
         };
     }
     Known {
         asked: true,
-        sound: 0,
+        sound: known.sound,
     }
 }
 

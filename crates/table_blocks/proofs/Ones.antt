@@ -1,7 +1,7 @@
 -- Laws of a slot's bit and of the ones of slots. Assumes nothing.
 use Prim.Native.Nat.{ℕ, zero, suc, _+_, _-_, _*_, _/_, _%_, _^_, _≤_, _<_}
 use mathlib.Core.Path.{_≡_, refl, sym, ap, _∙_}
-use mathlib.Core.List.{List}
+use mathlib.Core.List.{List, [], _∷_}
 use mathlib.Core.Bool.{Bool, true, false}
 use lib.Dec.{ltb}
 use borrow.Author.Tests.{ltb-true, ltb-false}
@@ -12,7 +12,6 @@ use lib.ListN.{getD}
 use lib.Count.{ones, ones-cat}
 use lib.Pow.{pow-pos, mod-pow-add, shl-exact, shr-shr}
 use lib.Bits.{bitAnd, and-mask, and-zero-r}
-use mir.Val.{boolByte}
 use Rattle.table_blocks.specs.Blocks.{bitAt, onesIn}
 
 pub bit-le : (words : List ℕ) (s : ℕ) → bitAt words s ≤ 1
@@ -100,9 +99,27 @@ word-part words b k j (suc d) hk hj =
     let e : b * 448 + k * 64 + j + d ≡ b * 448 + k * 64 + (j + d) = omega arith in
     rw (word-part words b k j d hk (omega arith), e, bit-of words b k (j + d) hk (omega arith), ← shr-shr w j d) (sym (low-step (w / 2 ^ j) d))
 
-pub byte-most : (b : Bool) → boolByte b ≤ 1
-byte-most true = omega arith
-byte-most false = omega arith
+-- the masks of six words, of which as many count as stand before the middle
+abbrev pub counted : List ℕ
+counted = let m : ℕ = 18446744073709551615 in m ∷ m ∷ m ∷ m ∷ m ∷ m ∷ 0 ∷ 0 ∷ 0 ∷ 0 ∷ 0 ∷ 0 ∷ []
+
+mask-first : (i : ℕ) → i < 6 → getD counted i 0 ≡ 18446744073709551615
+mask-first zero h = refl
+mask-first (suc zero) h = refl
+mask-first (suc (suc zero)) h = refl
+mask-first (suc (suc (suc zero))) h = refl
+mask-first (suc (suc (suc (suc zero)))) h = refl
+mask-first (suc (suc (suc (suc (suc zero))))) h = refl
+mask-first (suc (suc (suc (suc (suc (suc i)))))) h = absurd (omega arith)
+
+mask-second : (i : ℕ) → i < 6 → getD counted (6 + i) 0 ≡ 0
+mask-second zero h = refl
+mask-second (suc zero) h = refl
+mask-second (suc (suc zero)) h = refl
+mask-second (suc (suc (suc zero))) h = refl
+mask-second (suc (suc (suc (suc zero)))) h = refl
+mask-second (suc (suc (suc (suc (suc zero))))) h = refl
+mask-second (suc (suc (suc (suc (suc (suc i)))))) h = absurd (omega arith)
 
 -- a word under a mask: whole, or nothing
 mask-all : (w : ℕ) → w < 18446744073709551616 → ones (bitAnd w 18446744073709551615) ≡ ones w
@@ -115,23 +132,24 @@ mask-none w = rw (and-zero-r w)
 -- one word more of six, where q count
 pub count-step :
     (words : List ℕ) (b q k : ℕ) → q ≤ 6 → k < 6 → getD words (b * 8 + 1 + k) 0 < 18446744073709551616
-    → onesIn words (b * 448) ((k - (k - q)) * 64) + ones (bitAnd (getD words (b * 8 + 1 + k) 0) (boolByte (ltb k q) * 18446744073709551615)) ≡ onesIn words (b * 448) ((k + 1 - (k + 1 - q)) * 64)
+    → onesIn words (b * 448) ((k - (k - q)) * 64) + ones (bitAnd (getD words (b * 8 + 1 + k) 0) (getD counted (6 - q + k) 0)) ≡ onesIn words (b * 448) ((k + 1 - (k + 1 - q)) * 64)
 count-step words b q k hq hk fits = by (ltb k q) refl
   where
     w : ℕ
     w = getD words (b * 8 + 1 + k) 0
 
-    by : (t : Bool) → ltb k q ≡ t → onesIn words (b * 448) ((k - (k - q)) * 64) + ones (bitAnd w (boolByte t * 18446744073709551615)) ≡ onesIn words (b * 448) ((k + 1 - (k + 1 - q)) * 64)
+    by : (t : Bool) → ltb k q ≡ t → onesIn words (b * 448) ((k - (k - q)) * 64) + ones (bitAnd w (getD counted (6 - q + k) 0)) ≡ onesIn words (b * 448) ((k + 1 - (k + 1 - q)) * 64)
     by true e =
         let l = ltb-true k q e in
         let x : k - (k - q) ≡ k = omega (arith, l) in
         let y : k + 1 - (k + 1 - q) ≡ k + 1 = omega (arith, l) in
-        rw (x, y, mask-all w fits) (sym (word-more words b k (omega arith) fits))
+        rw (x, y, mask-first (6 - q + k) (omega (arith, l)), mask-all w fits) (sym (word-more words b k (omega arith) fits))
     by false e =
         let l = ltb-false k q e in
         let x : k - (k - q) ≡ q = omega (arith, l) in
         let y : k + 1 - (k + 1 - q) ≡ q = omega (arith, l) in
-        rw (x, y, mask-none w, add-zero)
+        let z : 6 - q + k ≡ 6 + (k - q) = omega (arith, l) in
+        rw (x, y, z, mask-second (k - q) (omega (arith, l)), mask-none w, add-zero)
 
 pub count-none : (words : List ℕ) (b q : ℕ) → 0 ≡ onesIn words (b * 448) ((0 - (0 - q)) * 64)
 unfolding onesIn

@@ -75,17 +75,33 @@ pub fn ones_in(words: &[u64], block: usize, n: usize) -> u64
     sum + ones_below(words[first + whole], (n % 64) as u32)
 }
 
-// The ones of a block's first q words, each of six under a mask of all ones or none: a loop up to q ends where no processor can guess.
+// The masks of a block's first six words where q of them count: six from 6 - q on.
+const COUNTED: [u64; 12] = [
+    0xffff_ffff_ffff_ffff,
+    0xffff_ffff_ffff_ffff,
+    0xffff_ffff_ffff_ffff,
+    0xffff_ffff_ffff_ffff,
+    0xffff_ffff_ffff_ffff,
+    0xffff_ffff_ffff_ffff,
+    0,
+    0,
+    0,
+    0,
+    0,
+    0,
+];
+
+// The ones of a block's first q words. It looks at six whatever q is: a loop up to q ends where no processor can guess.
 fn ones_whole(words: &[u64], block: usize, q: usize) -> u64
     requires { ⌜ (block * 8 + 8 ≤ length (now words)) × (q ≤ 6) ⌝ }
     ensures { λ r. ⌜ (r ≡ onesIn (now (words .entry)) (block * 448) (q * 64)) × (r ≤ 384) ⌝ }
 {
     let first = block * 8 + 1;
+    let masks = COUNTED;
     let mut sum: u64 = 0;
     let mut k: usize = 0;
     while k < 6 {
-        let mask = (k < q) as u64 * 0xffff_ffff_ffff_ffff;
-        sum += ones_of(words[first + k] & mask);
+        sum += ones_of(words[first + k] & masks[6 - q + k]);
         k += 1;
     }
     sum

@@ -2,11 +2,12 @@
 ghost use mathlib.Core.Path.{_≡_};
 ghost use mathlib.Core.Bool.{true};
 ghost use mathlib.Core.List.{[], _∷_, _++_};
-ghost use Prim.Native.Nat.{_≤_, _<_, suc};
+ghost use Prim.Native.Nat.{_+_, _≤_, _<_, suc};
 ghost use lib.ListN.{length};
 ghost use Rattle.brightness_list.specs.Order.{orderFits};
 ghost use Rattle.thinning.specs.Thinning.{dot, crowded, spotAt, Kept};
 ghost use Rattle.thinning.specs.Columns.{rowsOf};
+ghost use Rattle.thinning.specs.Ahead.{Ahead};
 use brightness_list::Place;
 
 // The dot product of two directions, added from left to right.
@@ -52,6 +53,47 @@ fn is_crowded(cosine: f32, v: [f32; 3], cols: &[f32; 192], n: usize) -> bool
     near
 }
 
+// Room for eight directions.
+fn no_rows() -> [[f32; 3]; 8]
+    ensures { λ r. ⌜ length r ≡ 8 ⌝ }
+{
+    [[0.0f32; 3]; 8]
+}
+
+// The directions of the eight spots from a place on, as far as the list goes, worked out together: none waits for another's root.
+fn look_ahead(centroids: &[f32], order: &[u32], scale: f32, from: usize, ahead: &mut [[f32; 3]; 8])
+    requires { ⌜ (orderFits (now order) (now centroids) ≡ true) × (length (now order) ≤ 256) × (from ≤ 256) × (length (now ahead) ≡ 8) ⌝ }
+    ensures { λ _. ⌜ Ahead (spotAt (now (centroids .entry)) (now (order .entry)) scale) (length (now (order .entry))) from 8 (now (ahead .exit)) ⌝ }
+{
+    let mut j: usize = 0;
+    while j < 8 {
+        if from + j < order.len() {
+            let i = brightness_list::centroid_of(order, Place((from + j) as u32));
+            ahead[j] = preprocess::unit_vector(centroids, i, scale);
+        }
+        j += 1;
+    }
+}
+
+// The place that eight directions begin at once that of place i is among them: they are worked out anew where it comes right after them.
+fn at_hand(
+    centroids: &[f32],
+    order: &[u32],
+    scale: f32,
+    i: usize,
+    from: usize,
+    ahead: &mut [[f32; 3]; 8],
+) -> usize
+    requires { ⌜ (orderFits (now order) (now centroids) ≡ true) × (length (now order) ≤ 256) × (i ≤ 256) × (from ≤ i) × Ahead (spotAt (now centroids) (now order) scale) (length (now order)) from 8 (now ahead) ⌝ }
+    ensures { λ r. ⌜ (r ≤ i) × (i < r + 8) × Ahead (spotAt (now (centroids .entry)) (now (order .entry)) scale) (length (now (order .entry))) r 8 (now (ahead .exit)) ⌝ }
+{
+    if i < from + 8 {
+        return from;
+    }
+    look_ahead(centroids, order, scale, i, ahead);
+    i
+}
+
 // The kept places of a pass, in brightness order and cut to `most`, with their directions: so many, to places and dirs.
 // What stands after them in the arrays is left open. Once `most` are kept the rest of the list would be cut anyway.
 pub fn thin(
@@ -68,20 +110,20 @@ pub fn thin(
 {
     let cut = most as usize;
     let mut cols = no_columns();
+    let mut ahead = no_rows();
+    look_ahead(centroids, order, scale, 0, &mut ahead);
+    let mut from: usize = 0;
     let mut kept: usize = 0;
     let mut i: usize = 0;
     while i < order.len() {
         if cut <= kept {
             return kept as u32;
         }
-        let p = i as u32;
-        let v = preprocess::unit_vector(
-            centroids,
-            brightness_list::centroid_of(order, Place(p)),
-            scale,
-        );
+        let first = at_hand(centroids, order, scale, i, from, &mut ahead);
+        from = first;
+        let v = ahead[i - first];
         if !is_crowded(cosine, v, &cols, kept) {
-            places[kept] = p;
+            places[kept] = i as u32;
             dirs[kept] = v;
             lay_row(&mut cols, kept, v);
             kept += 1;

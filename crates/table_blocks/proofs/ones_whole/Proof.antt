@@ -1,17 +1,16 @@
 use Prim.Native.Nat.{ℕ, _+_, _*_, _-_, _≤_}
 use mathlib.Core.Path.{_≡_, ap, ap₂, _∙_}
 use native.Mathlib.Omega.{arith}
-use lib.Dec.{ltb}
 use Rattle.table_blocks.specs.Blocks.{onesIn}
-use Rattle.table_blocks.proofs.Ones.{byte-most, count-none, count-step}
+use Rattle.table_blocks.proofs.Ones.{count-none, count-step}
 use Rattle.table_blocks.proofs.ones_whole.Statement.{statement}
 use Rattle.table_blocks.proofs.ones_whole.Tie as tie
 
 abbrev Inv-loop : tie.InvT-loop
-Inv-loop words block q first sum₀ k₀ sum k = (k ≤ 6) × (sum ≤ k * 64) × (sum ≡ onesIn words (block * 448) ((k - (k - q)) * 64))
+Inv-loop words block q first masks sum₀ k₀ sum k = (k ≤ 6) × (sum ≤ k * 64) × (sum ≡ onesIn words (block * 448) ((k - (k - q)) * 64))
 
 abbrev μ-loop : tie.MeasureT-loop
-μ-loop words block q first sum₀ k₀ sum k = 6 - k
+μ-loop words block q first masks sum₀ k₀ sum k = 6 - k
 
 mul-first : tie.Need-mul-first Inv-loop μ-loop
 mul-first c = omega arith
@@ -22,12 +21,6 @@ add-first c = omega arith
 loop-holds : tie.Need-loop-holds Inv-loop μ-loop
 loop-holds c = let a = c .before .args in (omega arith, omega arith, count-none (a .words .now) (a .block) (a .q))
 
-cast-mask : tie.Need-cast-mask Inv-loop μ-loop
-cast-mask c = tt
-
-mul-mask : tie.Need-mul-mask Inv-loop μ-loop
-mul-mask c = record { fits = omega (arith, byte-most (ltb (c .before .loop .k) (c .before .before .before .args .q))) }
-
 add-ones-of : tie.Need-add-ones-of Inv-loop μ-loop
 add-ones-of c = omega arith
 
@@ -37,8 +30,20 @@ mul-ones-of c = omega arith
 shared-slice-read-ones-of : tie.Need-shared-slice-read-ones-of Inv-loop μ-loop
 shared-slice-read-ones-of c = omega arith
 
+sub-ones-of : tie.Need-sub-ones-of Inv-loop μ-loop
+sub-ones-of c = omega arith
+
+add-ones-of-2 : tie.Need-add-ones-of-2 Inv-loop μ-loop
+add-ones-of-2 c = omega arith
+
+mul-ones-of-2 : tie.Need-mul-ones-of-2 Inv-loop μ-loop
+mul-ones-of-2 c = omega arith
+
+array-read-ones-of : tie.Need-array-read-ones-of Inv-loop μ-loop
+array-read-ones-of c = omega arith
+
 ones-of-requires : tie.Need-ones-of-requires Inv-loop μ-loop
-ones-of-requires c κs = tt
+ones-of-requires c κs = omega arith
 
 add-sum : tie.Need-add-sum Inv-loop μ-loop
 add-sum c = omega arith
@@ -70,11 +75,13 @@ ones-whole-spec =
     mul-first
     add-first
     loop-holds
-    cast-mask
-    mul-mask
     add-ones-of
     mul-ones-of
     shared-slice-read-ones-of
+    sub-ones-of
+    add-ones-of-2
+    mul-ones-of-2
+    array-read-ones-of
     ones-of-requires
     add-sum
     add-k

@@ -1,4 +1,4 @@
-use Prim.Native.Nat.{_≤_, _-_}
+use Prim.Native.Nat.{_+_, _≤_, _<_, _-_}
 use mathlib.Core.Path.{_≡_, refl, sym, ap, ap₂, _∙_}
 use mathlib.Core.Logic.{⊎-elim}
 use native.Mathlib.Omega.{arith}
@@ -6,27 +6,32 @@ use native.Mathlib.Numerals.{add-one}
 use borrow.Author.Needs.{needs}
 use borrow.Author.Tests.{not-true, not-false}
 use lib.ListN.{length, take}
-use Rattle.brightness_list.proofs.Orders.{places-have-centroids}
-use Rattle.preprocess.specs.Vectors.{vectorOf}
 use Rattle.thinning.specs.Thinning.{crowded, spotAt}
 use Rattle.thinning.specs.Columns.{rowsOf}
+use Rattle.thinning.specs.Ahead.{Ahead}
 use Rattle.thinning.proofs.Columns.{rows-grow}
 use Rattle.thinning.proofs.Laws.{Thinned, thin-none, thin-skip, thin-keep, thin-all, thin-cut}
 use Rattle.thinning.proofs.thin.Statement.{statement}
 use Rattle.thinning.proofs.thin.Tie as tie
 
 abbrev Inv-loop : tie.InvT-loop
-Inv-loop centroids order scale cosine most places₀ dirs₀ cut cols₀ kept₀ i₀ places dirs cols kept i = (i ≤ length order) × (cut ≡ most) × (length cols ≡ 192) × (rowsOf cols kept ≡ take kept dirs) × Thinned cosine (spotAt centroids order scale) most i kept places dirs
+Inv-loop centroids order scale cosine most places₀ dirs₀ cut cols₀ ahead₀ from₀ kept₀ i₀ places dirs cols ahead from kept i = (i ≤ length order) × (cut ≡ most) × (length cols ≡ 192) × (rowsOf cols kept ≡ take kept dirs) × Thinned cosine (spotAt centroids order scale) most i kept places dirs × (from ≤ i) × Ahead (spotAt centroids order scale) (length order) from 8 ahead
 
 abbrev μ-loop : tie.MeasureT-loop
-μ-loop centroids order scale cosine most places₀ dirs₀ cut cols₀ kept₀ i₀ places dirs cols kept i = length order - i
+μ-loop centroids order scale cosine most places₀ dirs₀ cut cols₀ ahead₀ from₀ kept₀ i₀ places dirs cols ahead from kept i = length order - i
 
 no-columns-requires : tie.Need-no-columns-requires Inv-loop μ-loop
 no-columns-requires c κs = search needs
 
+no-rows-requires : tie.Need-no-rows-requires Inv-loop μ-loop
+no-rows-requires c κs = search needs
+
+look-ahead-requires : tie.Need-look-ahead-requires Inv-loop μ-loop
+look-ahead-requires c κs = search needs
+
 loop-holds : tie.Need-loop-holds Inv-loop μ-loop
 unfolding rowsOf
-loop-holds c = let s = c .before .before .before in (omega arith, refl, c .no-columns .ensures, refl, thin-none _ _ _ _ _ (s .pre .3) (s .pre .4))
+loop-holds c = let s = c .before .before .before .before .before .before in (omega arith, refl, c .before .before .before .no-columns .ensures, refl, thin-none _ _ _ _ _ (s .pre .3) (s .pre .4), omega arith, c .look-ahead .ensures)
 
 cast-result : tie.Need-cast-result Inv-loop μ-loop
 cast-result c = search needs
@@ -34,17 +39,23 @@ cast-result c = search needs
 returns : tie.Need-returns Inv-loop μ-loop
 returns c = let l = c .before .before .loop in thin-cut _ _ _ _ _ _ _ (l .inv .4) _ (l .inv .0) (omega arith)
 
-cast-p : tie.Need-cast-p Inv-loop μ-loop
-cast-p c = search needs
+at-hand-requires : tie.Need-at-hand-requires Inv-loop μ-loop
+at-hand-requires c κs = search needs
 
-centroid-of-requires : tie.Need-centroid-of-requires Inv-loop μ-loop
-centroid-of-requires c κs = search needs
+sub-v : tie.Need-sub-v Inv-loop μ-loop
+sub-v c = search needs
 
-unit-vector-requires : tie.Need-unit-vector-requires Inv-loop μ-loop
-unit-vector-requires c κs = let s = c .before .before .before .before .before .before .before in let a = s .args in rw (c .centroid-of .ensures) (places-have-centroids (a .order .now) (a .centroids .now) _ (s .pre .0) (omega arith))
+mul-v : tie.Need-mul-v Inv-loop μ-loop
+mul-v c = search needs
+
+array-copy-out-v : tie.Need-array-copy-out-v Inv-loop μ-loop
+array-copy-out-v c = search needs
 
 is-crowded-requires : tie.Need-is-crowded-requires Inv-loop μ-loop
 is-crowded-requires c κs = search needs
+
+cast-places : tie.Need-cast-places Inv-loop μ-loop
+cast-places c = search needs
 
 mul-places : tie.Need-mul-places Inv-loop μ-loop
 mul-places c = search needs
@@ -52,8 +63,8 @@ mul-places c = search needs
 element-write-places : tie.Need-element-write-places Inv-loop μ-loop
 element-write-places c = search needs
 
-mul-v : tie.Need-mul-v Inv-loop μ-loop
-mul-v c = search needs
+mul-v-2 : tie.Need-mul-v-2 Inv-loop μ-loop
+mul-v-2 c = search needs
 
 element-set-from-v : tie.Need-element-set-from-v Inv-loop μ-loop
 element-set-from-v c = search needs
@@ -72,12 +83,15 @@ loop-less c = search needs
 
 loop-again : tie.Need-loop-again Inv-loop μ-loop
 loop-again c =
-    let b = c .before .before .before .before .before .before .before in
-    let l = b .loop in
-    let a = b .before .before .before .before .args in
-    let spot = spotAt (a .centroids .now) (a .order .now) (a .scale) (l .i) in
-    let v : c .before .before .before .unit-vector .result ≡ spot = c .before .before .before .unit-vector .ensures ∙ ap (λ z. vectorOf (a .centroids .now) z (a .scale)) (c .before .before .before .before .centroid-of .ensures) in
-    let k : crowded (a .cosine) spot (take (l .kept) (l .dirs)) ≡ c .before .is-crowded .result = ap₂ (crowded (a .cosine)) (sym v) (sym (l .inv .3)) ∙ sym (c .before .is-crowded .ensures) in
+    let f = c .before .before .before .before .at-hand in
+    let l = c .before .before .before .before .before .before .before .before .loop in
+    let s = c .before .before .before .before .before .before .before .before .before .before .before .before .before .before .before in
+    let a = s .args in
+    let few : l .kept < 64 = omega (arith, c .before .before .before .before .before .before .if1 .left, s .pre .2, l .inv .1) in
+    let spot = spotAt (a .centroids .now) (a .order .now) (a .scale) in
+    let e : f .result + (l .i - f .result) ≡ l .i = omega (arith, f .ensures .0) in
+    let v = f .ensures .2 .are (l .i - f .result) (omega (arith, f .ensures .1)) (omega arith) ∙ ap spot e in
+    let k : crowded (a .cosine) (spot (l .i)) (take (l .kept) (l .dirs)) ≡ c .before .is-crowded .result = ap₂ (crowded (a .cosine)) (sym v) (sym (l .inv .3)) ∙ sym (c .before .is-crowded .ensures) in
     ⊎-elim
     (λ w. (
       omega arith,
@@ -85,6 +99,8 @@ loop-again c =
       rw (w .5) (w .2 .ensures .0),
       rw (w .4, w .5, w .6) (rows-grow _ _ (l .dirs) _ (l .kept) (omega (arith, l .inv .4 .dirs-long)) (w .2 .ensures .1) (l .inv .3)),
       rw (w .3, w .4, w .6, add-one, add-one) (thin-keep _ _ _ _ _ _ _ (l .inv .4) (k ∙ not-true _ (w .0 .taken)) (omega arith) (omega arith) _ v),
+      omega (arith, f .ensures .0),
+      f .ensures .2,
     ))
     (λ w. (
       omega arith,
@@ -92,6 +108,8 @@ loop-again c =
       rw (w .3) (l .inv .2),
       rw (w .2, w .3, w .4) (l .inv .3),
       rw (w .1, w .2, w .4, add-one) (thin-skip _ _ _ _ _ _ _ (l .inv .4) (k ∙ not-false _ (w .0 .left))),
+      omega (arith, f .ensures .0),
+      f .ensures .2,
     ))
     (c .if2 .came)
 
@@ -108,16 +126,20 @@ thin-spec =
     Inv-loop
     μ-loop
     no-columns-requires
+    no-rows-requires
+    look-ahead-requires
     loop-holds
     cast-result
     returns
-    cast-p
-    centroid-of-requires
-    unit-vector-requires
+    at-hand-requires
+    sub-v
+    mul-v
+    array-copy-out-v
     is-crowded-requires
+    cast-places
     mul-places
     element-write-places
-    mul-v
+    mul-v-2
     element-set-from-v
     lay-row-requires
     add-kept
