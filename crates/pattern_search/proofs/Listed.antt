@@ -33,14 +33,11 @@ use Rattle.search_feed.proofs.Limits.{every-four-keyed, within-limits}
 use Rattle.search_feed.proofs.Sound.{opened-sound}
 use Rattle.search_questions.specs.Questions.{firstSeven, firstNo}
 use Rattle.pattern_search.specs.Answers.{lentOf, searchedSays}
-use Rattle.pattern_search.specs.Listed.{Given, lentBy, returned, replies, lastState, answersOf, AllSame, Opens, EveryList, NeverRefused, RefusedAtMostFive, ReturnedSays, ReadsASlot, UsesItsAllowance}
+use Rattle.pattern_search.specs.Listed.{Given, lentBy, returned, replies, lastState, answersOf, AllSame, Opens, EveryList, NeverRefused, RefusedAtMostFive, ReadsASlot, UsesItsAllowance}
 use Rattle.pattern_search.proofs.Saying.{says}
 use Rattle.search_questions.proofs.Asking.{seven-asked, seven-table}
 
 -- ---- the replies are the calls' answers
-pub returned-says : ReturnedSays
-returned-says st g = (says (searchCall st (lentBy g)), refl)
-
 replies-calls : (st : State) (gs : List Given) → answersOf (replies st gs) ≡ (calls searchCall st (map lentBy gs)) .0
 unfolding replies calls
 replies-calls st [] = refl

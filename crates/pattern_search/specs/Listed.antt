@@ -28,7 +28,7 @@ pub record Given : Type 0 where
 abbrev pub lentBy : Given → Lent (List ℕ) Candidate
 lentBy g = lentOf (g .data-of) (g .allowance)
 
--- what `search` returns, in the words of its contract
+-- what `search` returns: its contract
 abbrev pub returned : State → Given → Searched
 returned st g = searched (searchCall st (lentBy g))
 
@@ -82,10 +82,6 @@ NeverRefused = (D : Data) → Opens D → firstSeven (D .frame) (D .slots) (D .w
 abbrev pub RefusedAtMostFive : Type 0
 RefusedAtMostFive = (D : Data) → Opens D → (gs : List Given) → AllSame D start gs → (g : Given) → g .data-of ≡ D
     → (refusalOf (lastState start gs) (lentBy g) ≡ none) ⊎ ((k : ℕ) × (refusalOf (lastState start gs) (lentBy g) ≡ some k) × (k ≤ 5))
-
--- What `search` returns says document 01's answer and leaves its state: `returned-says`.
-abbrev pub ReturnedSays : Type 0
-ReturnedSays = (st : State) (g : Given) → (searchedSays (returned st g) ≡ (searchCall st (lentBy g)) .0) × ((returned st g) .state ≡ (searchCall st (lentBy g)) .1)
 
 -- "A call not refused and allowed a read reads a slot unless no read is left.": `reads-a-slot`. It then answers ended.
 abbrev pub ReadsASlot : Type 0

@@ -36,7 +36,7 @@ givenBy g =
       allowance = g .allowance;
     }
 
--- what `star_search` returns, in the words of its contract
+-- what `star_search` returns: its contract
 abbrev pub answered : StarState → Call → StarAnswer
 answered raw g = answerOf raw (returned (stateOf raw) (givenBy g))
 
