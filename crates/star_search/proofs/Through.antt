@@ -11,7 +11,7 @@ use Rattle.pattern_search.specs.declared.Searched.{Searched}
 use Rattle.pattern_search.specs.Listed.{returned}
 use Rattle.complete.specs.declared.Completed.{Completed}
 use Rattle.complete.specs.Completing.{completedOf}
-use Rattle.numbers_received.specs.Received.{configOf, stateOf, candidateOf}
+use Rattle.numbers_received.specs.Received.{configOf, stateOf, candidateFrom}
 use Rattle.numbers_handed.specs.Handed.{answerOf, completedNumbers}
 use Rattle.star_numbers.specs.declared.StarSettings.{StarSettings}
 use Rattle.star_numbers.specs.declared.StarState.{StarState}
@@ -34,5 +34,5 @@ module _ (centroids : List Float) (order : List ℕ) (passes stars : List Float)
     search-through config p st q r e a f = f ∙ ap (answerOf raw) (e ∙ ap₂ says q p)
 
   module _ (raw : StarCandidate) (scale : Float) where
-    pub complete-through : (c : Candidate) → c ≡ candidateOf raw → (r : Completed) → r ≡ completedOf centroids order passes stars c scale → (a : StarCompleted) → a ≡ completedNumbers r → a ≡ completedNumbers (completedOf centroids order passes stars (candidateOf raw) scale)
+    pub complete-through : (c : Candidate) → c ≡ candidateFrom raw → (r : Completed) → r ≡ completedOf centroids order passes stars c scale → (a : StarCompleted) → a ≡ completedNumbers r → a ≡ completedNumbers (completedOf centroids order passes stars (candidateFrom raw) scale)
     complete-through c p r e a f = f ∙ ap completedNumbers (e ∙ ap (λ x. completedOf centroids order passes stars x scale) p)

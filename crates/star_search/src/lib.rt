@@ -6,7 +6,7 @@ ghost use Rattle.pattern_catalog.specs.SlotRead.{slotRead};
 ghost use Rattle.opening.specs.Opening.{opening};
 ghost use Rattle.fov_sweep.specs.Sweep.{sweptOf, laterOf};
 ghost use Rattle.complete.specs.Completing.{completedOf};
-ghost use Rattle.numbers_received.specs.Received.{optionOf, candidateOf};
+ghost use Rattle.numbers_received.specs.Received.{optionOf, candidateFrom};
 ghost use Rattle.numbers_handed.specs.Handed.{openedNumber, slotNumbers, partNumbers, sweptNumbers, completedNumbers};
 ghost use Rattle.star_search.specs.Calls.{answered};
 use opening::Opened;
@@ -133,7 +133,7 @@ pub extern "C" fn star_complete(
     candidate: StarCandidate,
     scale: f32,
 ) -> StarCompleted
-    ensures { λ r. ⌜ r ≡ completedNumbers (completedOf (now (centroids .entry)) (now (order .entry)) (now (passes .entry)) (now (stars .entry)) (candidateOf candidate) scale) ⌝ }
+    ensures { λ r. ⌜ r ≡ completedNumbers (completedOf (now (centroids .entry)) (now (order .entry)) (now (passes .entry)) (now (stars .entry)) (candidateFrom candidate) scale) ⌝ }
 {
     let told = numbers_received::candidate_of(candidate);
     let completed = complete::complete(centroids, order, passes, stars, told, scale);
