@@ -16,7 +16,7 @@ use Rattle.undivided_run.specs.declared.Next.{Next}
 use Rattle.undivided_run.specs.declared.Next.the-variants.{Goes}
 use Rattle.undivided_run.specs.Undivided.{filled}
 use Rattle.undivided_run.specs.Step.{toPass, afterFour, afterKey, nextRead}
-use Rattle.undivided_run.specs.Moves.{probed, keyed, fourNext}
+use Rattle.undivided_run.specs.Moves.{probed, keyed, toFour}
 use Rattle.undivided_run.proofs.Steps.{four-more, four-last, key-more, key-last, probe-more, probe-last, probe-empty}
 use Rattle.search_feed.specs.Data.{Frame, dataOf}
 use Rattle.search_feed.specs.Image.{keysIn, keptPlaces, imageAt}
@@ -25,7 +25,7 @@ use Rattle.search_feed.specs.Feed.{feed}
 module _ (fr : Frame) (slots : ℕ) (w e : List ℕ) (x : List Float) (cap : Cap) (tried : ℕ) where
   -- after the last read of a combination
   module _ (i : ℕ) (q : Four) (k : ℕ) (ke : k ≡ length (keptPlaces fr i)) (m : MaybeFour) (me : maybeOf m ≡ nextFour k q) where
-    pub four-follows : (p : Four) → m ≡ Following p → afterFour (feed (dataOf fr slots w e x)) cap i q tried ≡ fourNext cap tried i p
+    pub four-follows : (p : Four) → m ≡ Following p → afterFour (feed (dataOf fr slots w e x)) cap i q tried ≡ toFour cap tried i p
     unfolding feed
     four-follows p o = four-more (feed (dataOf fr slots w e x)) cap tried i q k ke m me p o
 

@@ -8,6 +8,7 @@ use Rattle.undivided_run.specs.Undivided.{isZero, cases}
 use Rattle.next_read.specs.declared.Begin.{Begin}
 use Rattle.next_read.specs.declared.Begin.the-variants.{First, Over}
 
+-- n is how many the pass keeps
 unfoldable pub beginOf : ℕ → ℕ → ℕ → Begin
 beginOf n slots patterns =
     cond (ltb n 4) (Over TooFew)

@@ -36,6 +36,7 @@ abbrev pub openedNumber : Option ℕ → ℕ
 openedNumber none = 0
 openedNumber (some n) = n
 
+-- how a run ended: 0 too few, 1 no match, 2 timeout
 abbrev pub statusNumber : Status → ℕ
 statusNumber TooFew = 0
 statusNumber NoMatch = 1
@@ -56,6 +57,7 @@ plainNumbers phase status patterns reads =
       reads = reads;
     }
 
+-- a state at a read
 abbrev pub atNumbers : Position → ℕ → ℕ → StarState
 atNumbers p patterns reads =
     record {
@@ -70,6 +72,7 @@ atNumbers p patterns reads =
       reads = reads;
     }
 
+-- by where a state stands: 0 fresh, 1 at its next read, 2 ended
 abbrev pub phaseNumbers : Phase → ℕ → ℕ → StarState
 phaseNumbers Fresh patterns reads = plainNumbers 0 0 patterns reads
 phaseNumbers (At p) patterns reads = atNumbers p patterns reads
@@ -79,9 +82,11 @@ phaseNumbers (Ended s) patterns reads = plainNumbers 2 (statusNumber s) patterns
 abbrev pub stateNumbers : State → StarState
 stateNumbers s = phaseNumbers (s .phase) (s .patterns) (s .reads)
 
+-- the rebuild mark: 1 where it is set
 abbrev pub flagNumber : Bool → ℕ
 flagNumber b = cond b 1 0
 
+-- a candidate
 abbrev pub candidateNumbers : Candidate → StarCandidate
 candidateNumbers c =
     record {
@@ -101,6 +106,7 @@ answerWith Said.AllowanceUsed raw c s = record { answer = 1; number = 0; candida
 answerWith (Said.Ended t) raw c s = record { answer = 2; number = statusNumber t; candidate = c; state = s }
 answerWith (Said.Refused n) raw c s = record { answer = 3; number = n; candidate = c; state = raw }
 
+-- .. of what a search returned, `raw` being the state as received
 abbrev pub answerOf : StarState → Searched → StarAnswer
 answerOf raw r = answerWith (r .answer) raw (candidateNumbers (r .candidate)) (stateNumbers (r .state))
 
@@ -121,6 +127,7 @@ abbrev pub sweptNumbers : Swept → StarSwept
 sweptNumbers (Swept.Values n) = record { answer = 0; number = 0; count = n }
 sweptNumbers (Swept.Refused n) = record { answer = 1; number = n; count = 0 }
 
+-- a vector, and four of them
 abbrev pub vectorNumbers : Row → StarVector
 vectorNumbers r = record { x = getD (r .c) 0 nan; y = getD (r .c) 1 nan; z = getD (r .c) 2 nan }
 
@@ -132,5 +139,6 @@ abbrev pub completedWith : Completion → List StarVector → List StarVector �
 completedWith Completion.Done image star = record { answer = 0; number = 0; image = image; star = star }
 completedWith (Completion.Refused n) image star = record { answer = 1; number = n; image = image; star = star }
 
+-- .. with its vectors
 abbrev pub completedNumbers : Completed → StarCompleted
 completedNumbers c = completedWith (c .answer) (fourVectors (c .image)) (fourVectors (c .stars))

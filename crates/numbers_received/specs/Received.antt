@@ -1,7 +1,7 @@
 -- What is received from a host in C, in the library's own types. Definitions only.
 -- Any bit pattern has its meaning: an unknown tag becomes a value that its question refuses (the claims of star_search), so that the first no still wins.
 use Prim.Native.Nat.{ℕ}
-use mathlib.Core.Bool.{Bool, cond, not}
+use mathlib.Core.Bool.{cond, not}
 use mathlib.Core.List.{List, [], _∷_}
 use lib.Dec.{eqb, leb}
 use lib.ListN.{getD}
@@ -33,6 +33,7 @@ capOf tag most = cond (eqb tag 0) Cap.Absent (Cap.Given most)
 unfoldable pub binsOf : ℕ → ℕ → ℕ
 binsOf tag bins = cond (leb tag 1) bins 0
 
+-- the settings
 unfoldable pub configOf : StarSettings → SearchConfig
 configOf s =
     record {
@@ -76,20 +77,21 @@ stateOf s =
     (cond (eqb (s .phase) 2) (endedOf (s .status) (s .patterns) (s .reads))
     unknown))
 
-abbrev pub placesOf : List ℕ → List Place
-placesOf n = record { 0 = getD n 0 0 } ∷ record { 0 = getD n 1 0 } ∷ record { 0 = getD n 2 0 } ∷ record { 0 = getD n 3 0 } ∷ []
+-- a candidate's four places and four stars
+abbrev pub placesFrom : List ℕ → List Place
+placesFrom n = record { 0 = getD n 0 0 } ∷ record { 0 = getD n 1 0 } ∷ record { 0 = getD n 2 0 } ∷ record { 0 = getD n 3 0 } ∷ []
 
-abbrev pub starsOf : List ℕ → List StarIndex
-starsOf n = record { 0 = getD n 0 0 } ∷ record { 0 = getD n 1 0 } ∷ record { 0 = getD n 2 0 } ∷ record { 0 = getD n 3 0 } ∷ []
+abbrev pub starsFrom : List ℕ → List StarIndex
+starsFrom n = record { 0 = getD n 0 0 } ∷ record { 0 = getD n 1 0 } ∷ record { 0 = getD n 2 0 } ∷ record { 0 = getD n 3 0 } ∷ []
 
 -- a candidate to be completed: any number but 0 sets its mark
-unfoldable pub candidateOf : StarCandidate → Candidate
-candidateOf c =
+unfoldable pub candidateFrom : StarCandidate → Candidate
+candidateFrom c =
     record {
       pass = c .pass;
-      places = placesOf (c .place);
+      places = placesFrom (c .place);
       slot = c .slot;
-      stars = starsOf (c .star);
+      stars = starsFrom (c .star);
       field = c .field;
       rebuild = not (eqb (c .rebuild) 0);
     }

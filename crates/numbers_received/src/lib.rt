@@ -1,7 +1,7 @@
 // What is received from a host in C, as the library's own types. A tag that isn't known becomes a value that its question refuses,
 // so that the first no still wins.
 ghost use mathlib.Core.Path.{_≡_};
-ghost use Rattle.numbers_received.specs.Received.{optionOf, capOf, binsOf, configOf, positionOf, endedOf, stateOf, unknown, placesOf, starsOf, candidateOf};
+ghost use Rattle.numbers_received.specs.Received.{optionOf, capOf, binsOf, configOf, positionOf, endedOf, stateOf, unknown, placesFrom, starsFrom, candidateFrom};
 use brightness_list::Place;
 use candidates::Candidate;
 use combinations::Four;
@@ -155,14 +155,14 @@ pub fn state_of(raw: StarState) -> State
 
 // Four places.
 fn places_of(n: [u32; 4]) -> [Place; 4]
-    ensures { λ r. ⌜ r ≡ placesOf n ⌝ }
+    ensures { λ r. ⌜ r ≡ placesFrom n ⌝ }
 {
     [Place(n[0]), Place(n[1]), Place(n[2]), Place(n[3])]
 }
 
 // Four stars.
 fn stars_of(n: [u32; 4]) -> [StarIndex; 4]
-    ensures { λ r. ⌜ r ≡ starsOf n ⌝ }
+    ensures { λ r. ⌜ r ≡ starsFrom n ⌝ }
 {
     [
         StarIndex(n[0]),
@@ -174,7 +174,7 @@ fn stars_of(n: [u32; 4]) -> [StarIndex; 4]
 
 // The candidate; its mark is set by any number but 0.
 pub fn candidate_of(raw: StarCandidate) -> Candidate
-    ensures { λ r. ⌜ r ≡ candidateOf raw ⌝ }
+    ensures { λ r. ⌜ r ≡ candidateFrom raw ⌝ }
 {
     let p = raw.place;
     let s = raw.star;

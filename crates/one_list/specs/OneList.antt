@@ -1,9 +1,7 @@
 -- A small instance of demand 3: a table of two slots, one of them filled, a frame of four spots, and three calls, one of them lent something that is refused. Definitions only.
 use mathlib.Core.Path.{_≡_}
-use Prim.Native.Nat.{ℕ}
 use mathlib.Core.List.{List, [], _∷_}
 use mathlib.Core.Option.{none, some}
-use lib.Ieee.{Float}
 use Rattle.float_order.specs.Value.{zero32, one32}
 use Rattle.tolerance.specs.declared.Tolerance.the-variants.{Absent as NoOption}
 use Rattle.undivided_run.specs.declared.Cap.the-variants.{Absent as NoCap}

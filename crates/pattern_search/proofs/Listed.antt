@@ -3,7 +3,8 @@ use mathlib.Core.Path.{_≡_, refl, sym, _∙_, ap, ap₂, subst}
 use Prim.Native.Nat.{ℕ, _≤_, _<_}
 use mathlib.Core.Logic.{_⊎_, inl, inr}
 use native.Mathlib.Omega.{arith}
-use mathlib.Core.List.{List, [], _∷_, map}
+use mathlib.Core.List.{List, [], _∷_, _++_, map}
+use lib.ListN.{drop}
 use mathlib.Core.Bool.{Bool, true, false, cond}
 use mathlib.Core.Option.{Option, none, some}
 use Rattle.candidates.specs.declared.Candidate.{Candidate}
@@ -22,10 +23,10 @@ use Rattle.undivided_run.proofs.Progress.{progress-any, used-exactly}
 use Rattle.undivided_run.specs.Undivided.{cases}
 use Rattle.undivided_run.specs.Calls.{over, calls, found}
 use Rattle.undivided_run.specs.Step.{Lent, start, look, firstRead, searchCall, refusalOf, nineOf}
-use Rattle.undivided_run.specs.Listing.{FairList}
+use Rattle.undivided_run.specs.Listing.{FairList, MovesOn}
 use Rattle.undivided_run.specs.Exists.{Keyed}
 use Rattle.undivided_run.specs.Eight.{eightOk}
-use Rattle.undivided_run.proofs.Demand3.{KeyedList, demand3, eight, never-nine}
+use Rattle.undivided_run.proofs.Demand3.{KeyedList, demand3, moves-after, eight, never-nine}
 use Rattle.undivided_run.proofs.Eights.{eight-holds}
 use Rattle.search_feed.specs.Data.{Data}
 use Rattle.search_feed.specs.Feed.{feed}
@@ -33,14 +34,11 @@ use Rattle.search_feed.proofs.Limits.{every-four-keyed, within-limits}
 use Rattle.search_feed.proofs.Sound.{opened-sound}
 use Rattle.search_questions.specs.Questions.{firstSeven, firstNo}
 use Rattle.pattern_search.specs.Answers.{lentOf, searchedSays}
-use Rattle.pattern_search.specs.Listed.{Given, lentBy, returned, replies, lastState, answersOf, AllSame, Opens, EveryList, NeverRefused, RefusedAtMostFive, ReturnedSays, ReadsASlot, UsesItsAllowance}
+use Rattle.pattern_search.specs.Listed.{Given, lentBy, returned, replies, lastState, answersOf, run, AllSame, Opens, EveryList, EachPart, NeverRefused, RefusedAtMostFive, ReadsASlot, ReadsOnTheRun, UsesItsAllowance}
 use Rattle.pattern_search.proofs.Saying.{says}
 use Rattle.search_questions.proofs.Asking.{seven-asked, seven-table}
 
 -- ---- the replies are the calls' answers
-pub returned-says : ReturnedSays
-returned-says st g = (says (searchCall st (lentBy g)), refl)
-
 replies-calls : (st : State) (gs : List Given) → answersOf (replies st gs) ≡ (calls searchCall st (map lentBy gs)) .0
 unfolding replies calls
 replies-calls st [] = refl
@@ -110,6 +108,37 @@ listed D o gs h =
       status = rw (last-calls start gs) (d .status);
       leaves = rw (last-calls start gs) (d .leaves);
     }
+
+-- ---- an initial part of a list
+same-part : (D : Data) (st : State) (gs hs : List Given) → AllSame D st (gs ++ hs) → AllSame D st gs
+same-part D st [] hs h = tt
+same-part D st (g ∷ gs) hs h = (h .0, same-part D ((returned st g) .state) gs hs (h .1))
+
+replies-part : (st : State) (gs hs : List Given) → replies st (gs ++ hs) ≡ replies st gs ++ replies (lastState st gs) hs
+unfolding replies lastState
+replies-part st [] hs = refl
+replies-part st (g ∷ gs) hs = ap (returned st g ∷_) (replies-part ((returned st g) .state) gs hs)
+
+pub each-part : EachPart
+each-part D o gs hs h = let p = same-part D start gs hs h in (p, listed D o gs p, replies-part start gs hs)
+
+-- ---- a call after such a list
+pub reads-on-the-run : ReadsOnTheRun
+unfolding lentOf
+reads-on-the-run D o gs h g e n p =
+    by
+    (rw (← last-calls start gs) at
+    (moves-after (feed D) (D .frame .config .cap) (opened-sound D o) (keyed-by D (lastState start gs) g e n) (map lentBy gs) (fair D start gs h) (lentBy g)
+    (λ _. (ap (λ X. feed X) e, ap (λ (X : Data). X .frame .config .cap) e))
+    (rw (last-calls start gs) at n)
+    p))
+  where
+    st : State
+    st = lastState start gs
+
+    by : MovesOn (feed D) (D .frame .config .cap) (lastState start gs) (lentBy g) → (st .reads < (returned st g) .state .reads) ⊎ ((drop (st .reads) (run D .reads) ≡ []) × (searchedSays (returned st g) ≡ over (run D .status)))
+    by (inl l) = inl l
+    by (inr (z, w)) = inr (z, says (searchCall st (lentBy g)) ∙ w)
 
 clear : (D : Data) (st : State) → firstSeven (D .frame) (D .slots) (D .words) (D .stars) ≡ none → eightOk (feed D) st ≡ true → firstNo D st ≡ none
 unfolding firstNo cases

@@ -27,7 +27,7 @@ use Rattle.undivided_run.specs.Undivided.{cases, isSome, filled, gives, slotOf}
 use Rattle.undivided_run.specs.Calls.{candidate}
 use Rattle.undivided_run.specs.Step.{settle, soundAt}
 use Rattle.undivided_run.specs.Exists.{Here}
-use Rattle.undivided_run.specs.Good.{goesOn}
+use Rattle.undivided_run.specs.Good.{goesOn, afterRead}
 use Rattle.undivided_run.proofs.Turns.{good-after, good-room, turn-ends, turn-used, turn-refused, turn-hit, turn-passed}
 use Rattle.search_feed.specs.Data.{Data}
 use Rattle.search_feed.specs.Image.{keptPlaces, keptPlace, passOf}
@@ -41,7 +41,6 @@ use Rattle.search_feed.specs.declared.Sight.{Sight}
 use Rattle.search_feed.specs.declared.Seen.{Seen}
 use Rattle.search_feed.specs.declared.Seen.the-variants.{Empty, Unsound, Passed, Found}
 use Rattle.search_feed.proofs.Limits.{every-four-keyed, fitting, keys-counted}
-use Rattle.search_steps.specs.Steps.{steppedOf}
 use Rattle.next_read.specs.Desks.{AtRead}
 use Rattle.pattern_search.specs.Answers.{said, shown}
 use Rattle.pattern_search.specs.Turns.{stopping, goingOn, refusesOf, sawEntry, toldOf, Ready, Turned, rest}
@@ -71,7 +70,7 @@ filled-means Passed x f b g r m = sym (m .0)
 filled-means Found x f b g r m = sym (m .0)
 
 module _ (D : Data) (r : Position) where
-  means-of : Means (lookAt D r .seen) (lookAt D r .candidate) (filled (feed D) r) (soundAt (feed D) (D .frame .config .cap) r) (gives (feed D) r)
+  means-of : Means (lookAt D r .seen) (lookAt D r .candidate) (filled (feed D) r) (soundAt (feed D) r) (gives (feed D) r)
   unfolding lookIn entryLook filled soundAt gives slotOf feed slotAt entryAt testedAt candidateOf cases isSome
   means-of = by (slotFilled (D .words) (slotAt D r))
     where
@@ -93,15 +92,15 @@ module _ (D : Data) (r : Position) where
       by false = (refl, refl, refl)
       by true = two (entrySound (D .stars) e) (testedAt D r e)
 
-  pub means : (x : Sight) → x ≡ lookAt D r → Means (x .seen) (x .candidate) (filled (feed D) r) (soundAt (feed D) (D .frame .config .cap) r) (gives (feed D) r)
-  means x e = subst (λ (y : Sight). Means (y .seen) (y .candidate) (filled (feed D) r) (soundAt (feed D) (D .frame .config .cap) r) (gives (feed D) r)) (sym e) means-of
+  pub means : (x : Sight) → x ≡ lookAt D r → Means (x .seen) (x .candidate) (filled (feed D) r) (soundAt (feed D) r) (gives (feed D) r)
+  means x e = subst (λ (y : Sight). Means (y .seen) (y .candidate) (filled (feed D) r) (soundAt (feed D) r) (gives (feed D) r)) (sym e) means-of
 
-  module _ (x : Sight) (m : Means (x .seen) (x .candidate) (filled (feed D) r) (soundAt (feed D) (D .frame .config .cap) r) (gives (feed D) r)) where
-    pub refused-unsound : refusesOf (x .seen) ≡ true → soundAt (feed D) (D .frame .config .cap) r ≡ false
-    refused-unsound n = refused-means (x .seen) (x .candidate) (filled (feed D) r) (soundAt (feed D) (D .frame .config .cap) r) (gives (feed D) r) n m
+  module _ (x : Sight) (m : Means (x .seen) (x .candidate) (filled (feed D) r) (soundAt (feed D) r) (gives (feed D) r)) where
+    pub refused-unsound : refusesOf (x .seen) ≡ true → soundAt (feed D) r ≡ false
+    refused-unsound n = refused-means (x .seen) (x .candidate) (filled (feed D) r) (soundAt (feed D) r) (gives (feed D) r) n m
 
     pub entry-filled : refusesOf (x .seen) ≡ false → sawEntry (x .seen) ≡ filled (feed D) r
-    entry-filled n = filled-means (x .seen) (x .candidate) (filled (feed D) r) (soundAt (feed D) (D .frame .config .cap) r) (gives (feed D) r) n m
+    entry-filled n = filled-means (x .seen) (x .candidate) (filled (feed D) r) (soundAt (feed D) r) (gives (feed D) r) n m
 
 -- ---- a call between two reads
 module _ (D : Data) (w : Walk) (r : Position) (h : Held) (places : List ℕ) (measures : List Float) (hashes : List ℕ) (y : Ready D w h places measures hashes) (e : w .next ≡ goes r) where
@@ -190,34 +189,34 @@ module _ (D : Data) (st : State) (a : ℕ) (w : Walk) where
     reply-used r e p x xe = xe ∙ rw (turn-used (feed D) cap st a w r e p, ze)
 
   module _ (r : Position) (e : w .next ≡ goes r) (p : 0 < a) where
-    pub reply-refused : soundAt (feed D) cap r ≡ false → (x : Searched) → x ≡ record { answer = Refused 9; candidate = noCandidate; state = st } → x ≡ rest D st a w
+    pub reply-refused : soundAt (feed D) r ≡ false → (x : Searched) → x ≡ record { answer = Refused 9; candidate = noCandidate; state = st } → x ≡ rest D st a w
     unfolding said shown
     reply-refused s x xe = xe ∙ rw (turn-refused (feed D) cap st a w r e p s)
 
-    pub reply-hit : (f : Candidate) → soundAt (feed D) cap r ≡ true → gives (feed D) r ≡ some f → (v : Walk) → v ≡ steppedOf (feed D) cap w r → (z : State) → z ≡ record { phase = settle (v .next); patterns = v .patterns; reads = v .reads } → record { answer = SaidCandidate; candidate = f; state = z } ≡ rest D st a w
+    pub reply-hit : (f : Candidate) → soundAt (feed D) r ≡ true → gives (feed D) r ≡ some f → (v : Walk) → v ≡ afterRead (feed D) cap w r → (z : State) → z ≡ record { phase = settle (v .next); patterns = v .patterns; reads = v .reads } → record { answer = SaidCandidate; candidate = f; state = z } ≡ rest D st a w
     unfolding said shown
     reply-hit f s g v ve z ze = rw (turn-hit (feed D) cap st a w r e p f s g, ze, ve)
 
     -- a turn that goes on
-    turn-more : soundAt (feed D) cap r ≡ true → gives (feed D) r ≡ none → (v : Walk) → v ≡ steppedOf (feed D) cap w r → (h : Held) (places : List ℕ) (measures : List Float) (hashes : List ℕ) → Ready D v h places measures hashes → Turned D st a w places measures hashes (goingOn v h st (a - 1))
+    turn-more : soundAt (feed D) r ≡ true → gives (feed D) r ≡ none → (v : Walk) → v ≡ afterRead (feed D) cap w r → (h : Held) (places : List ℕ) (measures : List Float) (hashes : List ℕ) → Ready D v h places measures hashes → Turned D st a w places measures hashes (goingOn v h st (a - 1))
     turn-more s n v ve h places measures hashes y = (omega (arith, p), ap (goesOn (feed D) cap st (a - 1)) ve ∙ turn-passed (feed D) cap st a w r e p s n, y)
 
     -- what a sound read makes of the call
-    module _ (v : Walk) (ve : v ≡ steppedOf (feed D) cap w r) (h : Held) (places : List ℕ) (measures : List Float) (hashes : List ℕ) (y : Ready D v h places measures hashes) where
-      told-by : (s : Seen) (x : Candidate) → refusesOf s ≡ false → Means s x (filled (feed D) r) (soundAt (feed D) cap r) (gives (feed D) r) → Turned D st a w places measures hashes (toldOf s x v h st (a - 1))
+    module _ (v : Walk) (ve : v ≡ afterRead (feed D) cap w r) (h : Held) (places : List ℕ) (measures : List Float) (hashes : List ℕ) (y : Ready D v h places measures hashes) where
+      told-by : (s : Seen) (x : Candidate) → refusesOf s ≡ false → Means s x (filled (feed D) r) (soundAt (feed D) r) (gives (feed D) r) → Turned D st a w places measures hashes (toldOf s x v h st (a - 1))
       told-by Empty x n m = turn-more (m .1) (m .2) v ve h places measures hashes y
       told-by Unsound x n m = absurd (let z : _≡_ {A = ℕ} 0 1 = cc in omega arith)
       told-by Passed x n m = turn-more (m .1) (m .2) v ve h places measures hashes y
       told-by Found x n m = reply-hit x (m .1) (m .2) v ve _ refl
 
-      pub turn-told : (x : Sight) → refusesOf (x .seen) ≡ false → Means (x .seen) (x .candidate) (filled (feed D) r) (soundAt (feed D) cap r) (gives (feed D) r) → (u : Turn) → u ≡ toldOf (x .seen) (x .candidate) v h st (a - 1) → Turned D st a w places measures hashes u
+      pub turn-told : (x : Sight) → refusesOf (x .seen) ≡ false → Means (x .seen) (x .candidate) (filled (feed D) r) (soundAt (feed D) r) (gives (feed D) r) → (u : Turn) → u ≡ toldOf (x .seen) (x .candidate) v h st (a - 1) → Turned D st a w places measures hashes u
       turn-told x n m u ue = subst (Turned D st a w places measures hashes) (sym ue) (told-by (x .seen) (x .candidate) n m)
 
   pub turn-stop : (x : Searched) → x ≡ rest D st a w → (v : Walk) (h : Held) (places : List ℕ) (measures : List Float) (hashes : List ℕ) (u : Turn) → u ≡ stopping x v h → Turned D st a w places measures hashes u
   turn-stop x e v h places measures hashes u ue = rw ue e
 
 -- after a read the call is ready for the next
-pub ready-after : (D : Data) (w : Walk) (r : Position) (h g : Held) (p p2 : List ℕ) (d d2 : List Float) (l l2 : List ℕ) → Ready D w h p d l → w .next ≡ goes r → (v : Walk) → v ≡ steppedOf (feed D) (D .frame .config .cap) w r → PassDesk (D .frame) g p2 d2 → FourDesk (D .frame) g l2 → Ready D v g p2 d2 l2
+pub ready-after : (D : Data) (w : Walk) (r : Position) (h g : Held) (p p2 : List ℕ) (d d2 : List Float) (l l2 : List ℕ) → Ready D w h p d l → w .next ≡ goes r → (v : Walk) → v ≡ afterRead (feed D) (D .frame .config .cap) w r → PassDesk (D .frame) g p2 d2 → FourDesk (D .frame) g l2 → Ready D v g p2 d2 l2
 ready-after D w r h g p p2 d d2 l l2 y e v ve pd fd =
     record {
       asked = y .asked;

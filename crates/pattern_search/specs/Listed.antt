@@ -2,18 +2,18 @@
 use mathlib.Core.Path.{_≡_}
 use Prim.Native.Nat.{ℕ, _+_, _≤_, _<_}
 use mathlib.Core.Logic.{_⊎_}
-use mathlib.Core.List.{List, [], _∷_, map}
+use mathlib.Core.List.{List, [], _∷_, _++_, map}
 use mathlib.Core.Option.{none, some}
-use lib.ListN.{take}
+use lib.ListN.{take, drop}
 use Rattle.candidates.specs.declared.Candidate.{Candidate}
 use Rattle.opening.specs.Opening.{opening}
 use Rattle.undivided_run.specs.declared.State.{State}
 use Rattle.undivided_run.specs.declared.Status.{Status}
 use Rattle.undivided_run.specs.declared.Next.the-variants.{Ends}
-use Rattle.undivided_run.specs.Undivided.{gives, undivided}
-use Rattle.undivided_run.specs.Calls.{Answer, Machine, used, over, fresh, tried, candidates, machine, calls, found}
+use Rattle.undivided_run.specs.Undivided.{Run, gives, undivided}
+use Rattle.undivided_run.specs.Calls.{Answer, Machine, used, over, tried, candidates, found}
 use Rattle.undivided_run.specs.Step.{Lent, start, final, look, firstRead, searchCall, refusalOf}
-use Rattle.undivided_run.specs.Listing.{feeds, Leaves}
+use Rattle.undivided_run.specs.Listing.{Leaves, onRun as runCalls}
 use Rattle.search_feed.specs.Data.{Data}
 use Rattle.search_feed.specs.Feed.{feed}
 use Rattle.search_questions.specs.Questions.{firstSeven}
@@ -28,7 +28,7 @@ pub record Given : Type 0 where
 abbrev pub lentBy : Given → Lent (List ℕ) Candidate
 lentBy g = lentOf (g .data-of) (g .allowance)
 
--- what `search` returns, in the words of its contract
+-- what `search` returns: its contract
 abbrev pub returned : State → Given → Searched
 returned st g = searched (searchCall st (lentBy g))
 
@@ -52,19 +52,23 @@ module _ (D : Data) where
   AllSame st [] = Unit {0}
   AllSame st (g ∷ gs) = (refusalOf st (lentBy g) ≡ none → g .data-of ≡ D) × AllSame ((returned st g) .state) gs
 
+  -- the undivided run of what is lent
+  abbrev pub run : Run
+  run = undivided (feed D) (D .frame .config .cap)
+
   -- the answers, and the last state, that document 01's calls on its undivided run give
   abbrev pub onRun : List Given → List (Answer Candidate) × Machine
-  onRun gs = calls (machine (gives (feed D)) (undivided (feed D) (D .frame .config .cap))) fresh (feeds start (map lentBy gs))
+  onRun gs = runCalls (feed D) (D .frame .config .cap) (map lentBy gs)
 
   -- "each answer, and after the list the candidates in order, the patterns and table reads counted and any final status, equal those that
   -- document 01's calls on its undivided run give"; and the state that the list leaves
   pub record Listed (gs : List Given) : Type 0 where
     pub answers : answersOf (replies start gs) ≡ (onRun gs) .0
-    pub found-in-order : found (answersOf (replies start gs)) ≡ candidates (gives (feed D)) (take (lastState start gs .reads) ((undivided (feed D) (D .frame .config .cap)) .reads))
+    pub found-in-order : found (answersOf (replies start gs)) ≡ candidates (gives (feed D)) (take (lastState start gs .reads) (run .reads))
     pub reads : lastState start gs .reads ≡ (onRun gs) .1 .taken
-    pub patterns : lastState start gs .patterns ≡ tried (take (lastState start gs .reads) ((undivided (feed D) (D .frame .config .cap)) .reads))
+    pub patterns : lastState start gs .patterns ≡ tried (take (lastState start gs .reads) (run .reads))
     pub status : final (lastState start gs .phase) ≡ (onRun gs) .1 .final
-    pub leaves : Leaves (undivided (feed D) (D .frame .config .cap)) ((onRun gs) .1) (lastState start gs)
+    pub leaves : Leaves run ((onRun gs) .1) (lastState start gs)
 
 -- the table "passed the opening check"
 abbrev pub Opens : Data → Type 0
@@ -73,6 +77,12 @@ Opens D = opening (D .slots) (D .words) (D .packed) (D .stars) ≡ none
 -- Demand 3: `listed`.
 abbrev pub EveryList : Type 0
 EveryList = (D : Data) → Opens D → (gs : List Given) → AllSame D start gs → Listed D gs
+
+-- .. and of every initial part of such a list, whose replies are the first of the list's: what demand 3 says of the state after a list
+-- it says of the state after each call: `each-part`.
+abbrev pub EachPart : Type 0
+EachPart = (D : Data) → Opens D → (gs hs : List Given) → AllSame D start (gs ++ hs)
+    → AllSame D start gs × Listed D gs × (replies start (gs ++ hs) ≡ replies start gs ++ replies (lastState start gs) hs)
 
 -- A call given what such a list was given, past questions 1 to 7, is refused under no number: `never-refused`.
 abbrev pub NeverRefused : Type 0
@@ -83,15 +93,18 @@ abbrev pub RefusedAtMostFive : Type 0
 RefusedAtMostFive = (D : Data) → Opens D → (gs : List Given) → AllSame D start gs → (g : Given) → g .data-of ≡ D
     → (refusalOf (lastState start gs) (lentBy g) ≡ none) ⊎ ((k : ℕ) × (refusalOf (lastState start gs) (lentBy g) ≡ some k) × (k ≤ 5))
 
--- What `search` returns says document 01's answer and leaves its state: `returned-says`.
-abbrev pub ReturnedSays : Type 0
-ReturnedSays = (st : State) (g : Given) → (searchedSays (returned st g) ≡ (searchCall st (lentBy g)) .0) × ((returned st g) .state ≡ (searchCall st (lentBy g)) .1)
-
 -- "A call not refused and allowed a read reads a slot unless no read is left.": `reads-a-slot`. It then answers ended.
 abbrev pub ReadsASlot : Type 0
 ReadsASlot = (st : State) (g : Given) → refusalOf st (lentBy g) ≡ none → (0 < g .allowance)
     → (st .reads < (returned st g) .state .reads)
     ⊎ ((s : Status) × (look (firstRead (feed (g .data-of)) (g .data-of .frame .config .cap)) (st .phase) ≡ Ends s) × (searchedSays (returned st g) ≡ over s))
+
+-- The same on the run: after such a list a call not refused and allowed a read makes one, or the run has no read after those counted, and the call ends
+-- with the run's status: `reads-on-the-run`.
+abbrev pub ReadsOnTheRun : Type 0
+ReadsOnTheRun = (D : Data) → Opens D → (gs : List Given) → AllSame D start gs → (g : Given) → g .data-of ≡ D → refusalOf (lastState start gs) (lentBy g) ≡ none → (0 < g .allowance)
+    → (lastState start gs .reads < (returned (lastState start gs) g) .state .reads)
+    ⊎ ((drop (lastState start gs .reads) (run D .reads) ≡ []) × (searchedSays (returned (lastState start gs) g) ≡ over (run D .status)))
 
 -- "Allowance used" means exactly the allowance: `uses-its-allowance`.
 abbrev pub UsesItsAllowance : Type 0

@@ -8,8 +8,9 @@ ghost use Rattle.undivided_run.specs.Good.{goesOn};
 ghost use Rattle.search_feed.specs.Data.{frameOf, dataOf};
 ghost use Rattle.search_feed.specs.Feed.{feed};
 ghost use Rattle.search_questions.specs.Questions.{firstSeven};
-ghost use Rattle.pattern_search.specs.Answers.{searched, lentOf, replySays};
+ghost use Rattle.pattern_search.specs.Answers.{searched, replySays};
 ghost use Rattle.pattern_search.specs.Turns.{Ready};
+ghost use Rattle.pattern_search.specs.Listed.{lentBy, returned};
 use crate::Answer;
 use crate::Searched;
 use crate::reading::plain;
@@ -137,7 +138,7 @@ fn go(
     allowance: u64,
 ) -> Searched
     requires { ⌜ firstSeven (frameOf (now centroids) (now order) config (now passes)) slots (now words) (now stars) ≡ none ⌝ }
-    ensures { λ r. ⌜ r ≡ searched (searchCall st (lentOf (dataOf (frameOf (now (centroids .entry)) (now (order .entry)) config (now (passes .entry))) slots (now (words .entry)) (now (packed .entry)) (now (stars .entry))) allowance)) ⌝ }
+    ensures { λ r. ⌜ r ≡ returned st (record { data-of = dataOf (frameOf (now (centroids .entry)) (now (order .entry)) config (now (passes .entry))) slots (now (words .entry)) (now (packed .entry)) (now (stars .entry)); allowance = allowance }) ⌝ }
 {
     let mut places = no_places();
     let mut measures = no_measures();
@@ -211,8 +212,8 @@ pub fn search(
     state: State,
     allowance: u64,
 ) -> Searched
-    ensures { λ r. ⌜ r ≡ searched (searchCall state (lentOf (dataOf (frameOf (now (centroids .entry)) (now (order .entry)) config (now (passes .entry))) slots (now (words .entry)) (now (packed .entry)) (now (stars .entry))) allowance)) ⌝ }
-    ensures { λ r. ⌜ replySays r ≡ searchCall state (lentOf (dataOf (frameOf (now (centroids .entry)) (now (order .entry)) config (now (passes .entry))) slots (now (words .entry)) (now (packed .entry)) (now (stars .entry))) allowance) ⌝ }
+    ensures { λ r. ⌜ r ≡ returned state (record { data-of = dataOf (frameOf (now (centroids .entry)) (now (order .entry)) config (now (passes .entry))) slots (now (words .entry)) (now (packed .entry)) (now (stars .entry)); allowance = allowance }) ⌝ }
+    ensures { λ r. ⌜ replySays r ≡ searchCall state (lentBy (record { data-of = dataOf (frameOf (now (centroids .entry)) (now (order .entry)) config (now (passes .entry))) slots (now (words .entry)) (now (packed .entry)) (now (stars .entry)); allowance = allowance })) ⌝ }
 {
     match search_questions::first_seven(centroids, order, config, passes, slots, words, stars) {
         Asked::No(k) => plain(Answer::Refused(k), state),

@@ -52,7 +52,7 @@ module _ {E C : Type 0} (F : Feed E C) where
             (subst (λ m. Quiet F cap (b - left) (goes t) (bump r n) (goes q) m) (not-counted t (bump r n) later) (o .some-made h cap (bump r n)))
 
   -- one quiet read
-  pub quiet-one : (cap : Cap) (r : Read) (n : ℕ) (v : Next) → soundAt F cap r ≡ true → gives F r ≡ none → nextRead F cap r (bump r n) ≡ v → Quiet F cap 1 (goes r) n v (bump r n)
+  pub quiet-one : (cap : Cap) (r : Read) (n : ℕ) (v : Next) → soundAt F r ≡ true → gives F r ≡ none → nextRead F cap r (bump r n) ≡ v → Quiet F cap 1 (goes r) n v (bump r n)
   quiet-one cap r n v s g e = (r, (refl, s, g, (e, refl)))
 
   module _ (cap : Cap) (keyed : Keyed F) where

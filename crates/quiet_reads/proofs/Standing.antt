@@ -45,7 +45,7 @@ module _ (D : Data) (r : Position) where
 
   -- a sound read without a candidate, of a filled slot or of an empty one
   abbrev pub QuietAt : Bool → Type 0
-  QuietAt b = (filled (feed D) r ≡ b) × ((cap : Cap) → soundAt (feed D) cap r ≡ true) × (gives (feed D) r ≡ none)
+  QuietAt b = (filled (feed D) r ≡ b) × (soundAt (feed D) r ≡ true) × (gives (feed D) r ≡ none)
 
   pub empty-quiet : glanced ≡ Empty → QuietAt false
   unfolding glanceOf filled soundAt gives slotOf feed slotAt entryAt cases isSome
@@ -54,8 +54,8 @@ module _ (D : Data) (r : Position) where
       e : List ℕ
       e = bytesAt (D .packed) (place (D .words) (slotAt D r))
 
-      by : (b c : Bool) → cond b (cond c Passed Stop) Empty ≡ Empty → let o : Option (List ℕ) = cond b (some e) none in (isSome o ≡ false) × ((cap : Cap) → cases o true (entrySound (D .stars)) ≡ true) × (cases o none (λ e. ifHit D r e (testedAt D r e)) ≡ none)
-      by false c h = (refl, λ cap. refl, refl)
+      by : (b c : Bool) → cond b (cond c Passed Stop) Empty ≡ Empty → let o : Option (List ℕ) = cond b (some e) none in (isSome o ≡ false) × (cases o true (entrySound (D .stars)) ≡ true) × (cases o none (λ e. ifHit D r e (testedAt D r e)) ≡ none)
+      by false c h = (refl, refl, refl)
       by true true h = absurd (let z : _≡_ {A = ℕ} 0 1 = cc (h) in omega arith)
       by true false h = absurd (let z : _≡_ {A = ℕ} 0 1 = cc (h) in omega arith)
 
@@ -74,12 +74,12 @@ module _ (D : Data) (r : Position) where
       mark : ℕ
       mark = markOf (hashOfRead (D .frame) r)
 
-      two : (s m : Bool) → entrySound (D .stars) e ≡ s → eqb (markIn e) mark ≡ m → cond (s && not m) Passed Stop ≡ Passed → (_≡_ {A = Bool} true true) × ((cap : Cap) → entrySound (D .stars) e ≡ true) × (ifHit D r e (testedAt D r e) ≡ none)
-      two true false se me h = (refl, λ cap. se, rw (other-mark e me))
+      two : (s m : Bool) → entrySound (D .stars) e ≡ s → eqb (markIn e) mark ≡ m → cond (s && not m) Passed Stop ≡ Passed → (_≡_ {A = Bool} true true) × (entrySound (D .stars) e ≡ true) × (ifHit D r e (testedAt D r e) ≡ none)
+      two true false se me h = (refl, se, rw (other-mark e me))
       two true true se me h = absurd (let z : _≡_ {A = ℕ} 0 1 = cc (h) in omega arith)
       two false m se me h = absurd (let z : _≡_ {A = ℕ} 0 1 = cc (h) in omega arith)
 
-      by : (b : Bool) → cond b (cond (entrySound (D .stars) e && not (eqb (markIn e) mark)) Passed Stop) Empty ≡ Passed → let o : Option (List ℕ) = cond b (some e) none in (isSome o ≡ true) × ((cap : Cap) → cases o true (entrySound (D .stars)) ≡ true) × (cases o none (λ e. ifHit D r e (testedAt D r e)) ≡ none)
+      by : (b : Bool) → cond b (cond (entrySound (D .stars) e && not (eqb (markIn e) mark)) Passed Stop) Empty ≡ Passed → let o : Option (List ℕ) = cond b (some e) none in (isSome o ≡ true) × (cases o true (entrySound (D .stars)) ≡ true) × (cases o none (λ e. ifHit D r e (testedAt D r e)) ≡ none)
       by false h = absurd (let z : _≡_ {A = ℕ} 0 1 = cc (h) in omega arith)
       by true h = two (entrySound (D .stars) e) (eqb (markIn e) mark) refl refl h
 
@@ -107,7 +107,7 @@ module _ (D : Data) (p : Position) (k : ℕ) where
   last : (a c : ℕ) → (b : Bool) → QuietAt D (at c) b → ((cap : Cap) (n : ℕ) → nextRead F cap (at c) n ≡ afterKey F cap (p .pass) (p .four) k n) → Way true (suc a) c (record { over = true; probe = c; left = a })
   last a c b q e =
       let z : suc a - a ≡ 1 = omega arith in
-      (leads-stay F (at c) (suc a), omega arith, λ cap n. rw z (quiet-one F cap (at c) n _ (q .1 cap) (q .2) (e cap (bump (at c) n))))
+      (leads-stay F (at c) (suc a), omega arith, λ cap n. rw z (quiet-one F cap (at c) n _ (q .1) (q .2) (e cap (bump (at c) n))))
 
   -- a read within a chain, and the way from the next probe
   module _ (a c : ℕ) (q : QuietAt D (at c) true) (h : suc c < D .slots) where
@@ -115,7 +115,7 @@ module _ (D : Data) (p : Position) (k : ℕ) where
     unfolding feed
     one cap n =
         let z : suc a - a ≡ 1 = omega arith in
-        rw z (quiet-one F cap (at c) n _ (q .1 cap) (q .2) (probe-more F cap (bump (at c) n) (at c) true (sym (q .0)) refl (omega arith) ∙ ap (λ x. goes (at x)) (let y : c + 1 ≡ suc c = omega arith in y)))
+        rw z (quiet-one F cap (at c) n _ (q .1) (q .2) (probe-more F cap (bump (at c) n) (at c) true (sym (q .0)) refl (omega arith)))
 
     onward : (b : Bool) (s : Along) → Way b a (suc c) s → Way b (suc a) c s
     onward false s w = leads-then F (at c) (at (suc c)) (at (s .probe)) a (not-first c) (suc a) (s .left) (omega arith) one w
@@ -169,7 +169,7 @@ module _ (D : Data) (p : Position) (hashes : List ℕ) (keys : ℕ) (ke : keys �
 
   -- over a key that isn't the last: the first read of the next
   key-on : (k c n : ℕ) (cap : Cap) → suc k < keys → afterKey (feed D) cap (p .pass) (p .four) k n ≡ goes (atKey p (suc k) 0)
-  key-on k c n cap h = key-more (feed D) cap n (atKey p k c) keys ke (omega arith) ∙ ap (λ x. goes (atKey p x 0)) (let y : k + 1 ≡ suc k = omega arith in y)
+  key-on k c n cap h = key-more (feed D) cap n (atKey p k c) keys ke (omega arith)
 
   not-begun : (k : ℕ) → starts (atKey p (suc k) 0) ≡ false
   unfolding starts isZero

@@ -17,7 +17,7 @@ atKey p k c = record { pass = p .pass; four = p .four; key = k; probe = c }
 -- from w, with n combinations counted, j reads that are sound and give nothing lead to v, with m counted
 abbrev pub Quiet : {E C : Type 0} → Feed E C → Cap → ℕ → Next → ℕ → Next → ℕ → Type 0
 Quiet F cap zero w n v m = (w ≡ v) × (n ≡ m)
-Quiet F cap (suc j) w n v m = (r : Read) × ((w ≡ goes r) × (soundAt F cap r ≡ true) × (gives F r ≡ none) × Quiet F cap j (nextRead F cap r (bump r n)) (bump r n) v m)
+Quiet F cap (suc j) w n v m = (r : Read) × ((w ≡ goes r) × (soundAt F r ≡ true) × (gives F r ≡ none) × Quiet F cap j (nextRead F cap r (bump r n)) (bump r n) v m)
 
 -- reads that are sound and give nothing lead from r, with an allowance, to q of the same combination, with so much left of it
 pub record Leads {E C : Type 0} (F : Feed E C) (r : Read) (allowance left : ℕ) (q : Read) : Type 0 where

@@ -16,9 +16,9 @@ use Rattle.undivided_run.specs.declared.Phase.{Phase}
 use Rattle.undivided_run.specs.declared.Phase.the-variants.{Fresh, At, Ended}
 use Rattle.undivided_run.specs.Undivided.{Feed}
 use Rattle.undivided_run.specs.Step.{bump, toPass, nextRead, firstRead, look}
+use Rattle.undivided_run.specs.Good.{afterRead}
 use Rattle.search_feed.specs.Data.{Frame, dataOf}
 use Rattle.search_feed.specs.Feed.{feed}
-use Rattle.search_steps.specs.Steps.{steppedOf}
 
 -- ---- where a call begins, by the state's phase
 module _ (fr : Frame) (slots : ℕ) (w e : List ℕ) (x : List Float) (cap : Cap) (g : Phase) where
@@ -40,5 +40,5 @@ module _ (fr : Frame) (slots : ℕ) (w e : List ℕ) (x : List Float) (cap : Cap
   begun-at p f = sym (ap (look (firstRead (feed (dataOf fr slots w e x)) cap)) f)
 
 -- ---- the walk after a read
-pub stepped : {E C : Type 0} (F : Feed E C) (cap : Cap) (w : Walk) (r : Position) (n : ℕ) → n ≡ bump r (w .patterns) → (x : Next) → x ≡ nextRead F cap r n → record { next = x; patterns = n; reads = w .reads + 1 } ≡ steppedOf F cap w r
+pub stepped : {E C : Type 0} (F : Feed E C) (cap : Cap) (w : Walk) (r : Position) (n : ℕ) → n ≡ bump r (w .patterns) → (x : Next) → x ≡ nextRead F cap r n → record { next = x; patterns = n; reads = w .reads + 1 } ≡ afterRead F cap w r
 stepped F cap w r n ne x xe = rw (xe, ne)

@@ -7,13 +7,13 @@ ghost use lib.ListN.{length};
 ghost use Rattle.combinations.specs.Fours.{Rising};
 ghost use Rattle.undivided_run.specs.Undivided.{filled};
 ghost use Rattle.undivided_run.specs.Step.{look, firstRead};
+ghost use Rattle.undivided_run.specs.Good.{afterRead};
 ghost use Rattle.search_feed.specs.Data.{frameOf, dataOf};
 ghost use Rattle.search_feed.specs.Image.{keptPlaces};
 ghost use Rattle.search_feed.specs.Feed.{feed};
 ghost use Rattle.search_desk.specs.Desk.{PassDesk, FourDesk, ForPass, ForFour};
 ghost use Rattle.search_feed.specs.Claims.{Asked5};
 ghost use Rattle.next_read.specs.Desks.{DeskAfter, AtRead};
-ghost use Rattle.search_steps.specs.Steps.{steppedOf};
 use next_read::Reached;
 use search_desk::Held;
 use search_feed::SearchConfig;
@@ -74,7 +74,7 @@ pub fn step(
     measures: &mut [f32; 2208],
 ) -> Stepped
     requires { ⌜ Asked5 (frameOf (now centroids) (now order) config (now passes)) × AtRead (frameOf (now centroids) (now order) config (now passes)) slots held p (now places) (now measures) × (walk .patterns < 9223372036854775808) × (walk .reads < 9223372036854775808) ⌝ }
-    ensures { λ r. ⌜ ((w e : List ℕ) (s : List Float) → full ≡ filled (feed (dataOf (frameOf (now (centroids .entry)) (now (order .entry)) config (now (passes .entry))) slots w e s)) p → r .walk ≡ steppedOf (feed (dataOf (frameOf (now (centroids .entry)) (now (order .entry)) config (now (passes .entry))) slots w e s)) (config .cap) walk p) ⌝ }
+    ensures { λ r. ⌜ ((w e : List ℕ) (s : List Float) → full ≡ filled (feed (dataOf (frameOf (now (centroids .entry)) (now (order .entry)) config (now (passes .entry))) slots w e s)) p → r .walk ≡ afterRead (feed (dataOf (frameOf (now (centroids .entry)) (now (order .entry)) config (now (passes .entry))) slots w e s)) (config .cap) walk p) ⌝ }
     ensures { λ r. ⌜ DeskAfter (frameOf (now (centroids .entry)) (now (order .entry)) config (now (passes .entry))) held (r .held) (now (places .exit)) (now (measures .exit)) ⌝ }
 {
     let n = p.count(walk.patterns);

@@ -1,3 +1,4 @@
 pub mod Tags
+pub mod Shown
 pub mod Calls
 pub mod Through

@@ -1,19 +1,18 @@
 -- What is received and handed over: the same state back, unknown tags refused, the part as numbers. Assumes nothing.
-use mathlib.Core.Path.{_≡_, refl, sym, ap, _∙_}
+use mathlib.Core.Path.{_≡_, refl, sym, ap}
 use Prim.Native.Nat.{ℕ, _<_}
 use native.Mathlib.Omega.{arith}
-use mathlib.Core.Bool.{Bool, true, false, _&&_, false≢true}
+use mathlib.Core.Bool.{Bool, true, false, not, _&&_, false≢true}
 use mathlib.Core.Logic.{_⊎_, inl, inr}
-use mathlib.Core.List.{List}
+use mathlib.Core.List.{List, [], _∷_}
+use lib.ListN.{length, getD}
 use mathlib.Core.Option.{Option, none, some}
-use lib.Dec.{leb}
+use lib.Dec.{eqb, leb}
 use lib.Ieee.{Float, le, lt}
 use lib.Ieee.Scale.{finite}
-use borrow.Author.Tests.{eq-eqb, ne-eqb, lt-leb}
-use Rattle.undivided_run.specs.declared.State.{State}
+use borrow.Author.Tests.{ne-eqb, lt-leb}
 use Rattle.undivided_run.specs.declared.Phase.{Phase}
 use Rattle.undivided_run.specs.declared.Phase.the-variants.{Fresh, At, Ended}
-use Rattle.undivided_run.specs.declared.Status.{Status}
 use Rattle.undivided_run.specs.declared.Status.the-variants.{TooFew, NoMatch, Timeout}
 use Rattle.undivided_run.specs.Eight.{phaseFits}
 use Rattle.undivided_run.specs.Step.{start}
@@ -25,11 +24,13 @@ use Rattle.pattern_entry.specs.Entry.{bytesAt}
 use Rattle.star_slice.specs.Stars.{starsFit}
 use Rattle.table_blocks.specs.Blocks.{tableFits}
 use Rattle.opening.specs.Opening.{opening, indexRight, slotSound}
-use Rattle.pattern_catalog.specs.Answers.{Answer, filledAt, empty, refused}
+use Rattle.pattern_catalog.specs.Answers.{filledAt, empty, refused}
 use Rattle.fov_sweep.specs.Sweep.{sweepFits}
-use Rattle.numbers_received.specs.Received.{optionOf, binsOf, configOf, positionOf, unknown, endedOf, stateOf}
-use Rattle.numbers_handed.specs.Handed.{openedNumber, phaseNumbers}
-use Rattle.star_search.specs.Claims.{ZeroPasses, StateBack, ZeroIsFresh, UnknownSettings, UnknownError, UnknownState, PartAsNumbers}
+use Rattle.star_directions.specs.Directions.{noStar}
+use Rattle.candidate_questions.specs.Questions.{noPlace}
+use Rattle.numbers_received.specs.Received.{optionOf, binsOf, configOf, positionOf, unknown, endedOf, stateOf, candidateFrom}
+use Rattle.numbers_handed.specs.Handed.{openedNumber, phaseNumbers, flagNumber}
+use Rattle.star_search.specs.Claims.{ZeroPasses, StateBack, CandidateBack, ZeroIsFresh, UnknownSettings, UnknownError, UnknownState, PartAsNumbers}
 
 -- ---- the opening check
 zero-none : (a b c d : Bool) → let o : Option ℕ = ask a (some 6) (ask b (some 7) (ask c (some 10) (ask d (some 9) none))) in openedNumber o ≡ 0 → o ≡ none
@@ -58,6 +59,23 @@ state-back s = phase-back (s .phase) (s .patterns) (s .reads)
 pub zero-is-fresh : ZeroIsFresh
 unfolding stateOf start
 zero-is-fresh = refl
+
+-- ---- a candidate and back
+four-back : {A : Type 0} (xs : List A) (d : A) → length xs ≡ 4 → getD xs 0 d ∷ getD xs 1 d ∷ getD xs 2 d ∷ getD xs 3 d ∷ [] ≡ xs
+four-back (a ∷ b ∷ c ∷ e ∷ []) d h = refl
+four-back [] d h = absurd (omega (arith, h))
+four-back (a ∷ []) d h = absurd (omega (arith, h))
+four-back (a ∷ b ∷ []) d h = absurd (omega (arith, h))
+four-back (a ∷ b ∷ c ∷ []) d h = absurd (omega (arith, h))
+four-back (a ∷ b ∷ c ∷ e ∷ f ∷ xs) d h = absurd (omega (arith, h))
+
+flag-back : (b : Bool) → not (eqb (flagNumber b) 0) ≡ b
+flag-back true = refl
+flag-back false = refl
+
+pub candidate-back : CandidateBack
+unfolding candidateFrom
+candidate-back c p s = rw (four-back (c .places) noPlace p, four-back (c .stars) noStar s, flag-back (c .rebuild))
 
 -- ---- unknown tags
 unknown-option : (tag : ℕ) (x : Float) → 1 < tag → optionFits (optionOf tag x) ≡ false

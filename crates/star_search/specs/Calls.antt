@@ -1,16 +1,23 @@
 -- A list of calls of `star_search`, each given the state that the last one gave back, beside the list of calls of the search itself. Definitions only.
 use mathlib.Core.Path.{_≡_}
-use Prim.Native.Nat.{ℕ}
+use Prim.Native.Nat.{ℕ, zero, suc}
+use mathlib.Core.Bool.{cond}
 use mathlib.Core.List.{List, [], _∷_, map}
+use mathlib.Core.Option.{Option, none, some}
+use lib.Dec.{eqb}
+use lib.ListN.{take, drop}
 use lib.Ieee.{Float}
 use Rattle.candidates.specs.declared.Candidate.{Candidate}
-use Rattle.undivided_run.specs.Calls.{Answer, candidate, used, over, refused}
+use Rattle.undivided_run.specs.declared.Position.{Position}
+use Rattle.undivided_run.specs.declared.Status.{Status}
+use Rattle.undivided_run.specs.Undivided.{gives}
+use Rattle.undivided_run.specs.Calls.{Answer, candidate, used, over, refused, tried, candidates}
 use Rattle.undivided_run.specs.Step.{start}
 use Rattle.search_feed.specs.Data.{Data, frameOf, dataOf}
-use Rattle.search_feed.specs.Feed.{noCandidate}
-use Rattle.pattern_search.specs.Listed.{Given, returned, answersOf, replies, lastState, AllSame, Opens, onRun}
-use Rattle.numbers_received.specs.Received.{configOf, stateOf}
-use Rattle.numbers_handed.specs.Handed.{statusNumber, candidateNumbers, answerOf}
+use Rattle.search_feed.specs.Feed.{feed, noCandidate}
+use Rattle.pattern_search.specs.Listed.{Given, returned, answersOf, replies, lastState, run, AllSame, Opens, onRun}
+use Rattle.numbers_received.specs.Received.{configOf, positionOf, stateOf}
+use Rattle.numbers_handed.specs.Handed.{statusNumber, plainNumbers, candidateNumbers, answerOf}
 use Rattle.star_numbers.specs.declared.StarSettings.{StarSettings}
 use Rattle.star_numbers.specs.declared.StarState.{StarState}
 use Rattle.star_numbers.specs.declared.StarCandidate.{StarCandidate}
@@ -36,7 +43,7 @@ givenBy g =
       allowance = g .allowance;
     }
 
--- what `star_search` returns, in the words of its contract
+-- what `star_search` returns: its contract
 abbrev pub answered : StarState → Call → StarAnswer
 answered raw g = answerOf raw (returned (stateOf raw) (givenBy g))
 
@@ -71,9 +78,33 @@ SameCalls = (raw : StarState) (gs : List Call)
     → (map saidBy (answers raw gs) ≡ map numbersOf (answersOf (replies (stateOf raw) (map givenBy gs))))
     × (stateOf (lastRaw raw gs) ≡ lastState (stateOf raw) (map givenBy gs))
 
--- Demand 3 through C: from a fresh state the answers are those that document 01's calls on its undivided run give: `listed-through-c`.
--- `listed` (pattern_search) says the rest of the state after the list.
+-- the candidates among answers, in order
+unfoldable pub foundIn : List Numbers → List StarCandidate
+foundIn [] = []
+foundIn (a ∷ rest) = cond (eqb (a .answer) 0) (a .candidate ∷ foundIn rest) (foundIn rest)
+
+-- the phase of a machine that has this final status and took n reads: 0 fresh, 1 at its next read, 2 ended
+abbrev pub phaseOn : Option Status → ℕ → ℕ
+phaseOn (some s) n = 2
+phaseOn none zero = 0
+phaseOn none (suc n) = 1
+
+-- What a host sees: each answer, and after the list the candidates in order, and in the raw state the reads, the patterns, the phase, the status of an
+-- ended run and the numbers of a next read, are those that document 01's calls on its undivided run give.
+pub record SeenFromC (D : Data) (raw : StarState) (gs : List Call) : Type 0 where
+  pub answers-are : map saidBy (answers raw gs) ≡ map numbersOf ((onRun D (map givenBy gs)) .0)
+  pub found-in-order : foundIn (map saidBy (answers raw gs)) ≡ map candidateNumbers (candidates (gives (feed D)) (take (lastRaw raw gs .reads) (run D .reads)))
+  pub reads : lastRaw raw gs .reads ≡ (onRun D (map givenBy gs)) .1 .taken
+  pub patterns : lastRaw raw gs .patterns ≡ tried (take (lastRaw raw gs .reads) (run D .reads))
+  pub phase : lastRaw raw gs .phase ≡ phaseOn ((onRun D (map givenBy gs)) .1 .final) ((onRun D (map givenBy gs)) .1 .taken)
+  pub status : (s : Status) → (onRun D (map givenBy gs)) .1 .final ≡ some s → lastRaw raw gs .status ≡ statusNumber s
+  pub next-read : lastRaw raw gs .phase ≡ 1 → (r : Position) × (rs : List Position) × (drop (lastRaw raw gs .reads) (run D .reads) ≡ r ∷ rs) × (positionOf (lastRaw raw gs) ≡ r)
+  pub state : stateOf (lastRaw raw gs) ≡ lastState start (map givenBy gs)
+
+-- Demand 3 through C, from any raw state that says fresh: `listed-through-c`.
 abbrev pub ListedThroughC : Type 0
-ListedThroughC = (D : Data) → Opens D → (raw : StarState) → stateOf raw ≡ start → (gs : List Call) → AllSame D start (map givenBy gs)
-    → (map saidBy (answers raw gs) ≡ map numbersOf ((onRun D (map givenBy gs)) .0))
-    × (stateOf (lastRaw raw gs) ≡ lastState start (map givenBy gs))
+ListedThroughC = (D : Data) → Opens D → (raw : StarState) → stateOf raw ≡ start → (gs : List Call) → AllSame D start (map givenBy gs) → SeenFromC D raw gs
+
+-- .. so from the zeroed state: `listed-from-zero`.
+abbrev pub ListedFromZero : Type 0
+ListedFromZero = (D : Data) → Opens D → (gs : List Call) → AllSame D start (map givenBy gs) → SeenFromC D (plainNumbers 0 0 0 0) gs

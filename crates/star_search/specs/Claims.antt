@@ -5,8 +5,9 @@ use mathlib.Core.Bool.{false}
 use mathlib.Core.Logic.{_⊎_, _↔_}
 use mathlib.Core.List.{List}
 use mathlib.Core.Option.{none}
-use lib.ListN.{take, drop}
+use lib.ListN.{length, take, drop}
 use lib.Ieee.{Float}
+use Rattle.candidates.specs.declared.Candidate.{Candidate}
 use Rattle.undivided_run.specs.declared.State.{State}
 use Rattle.undivided_run.specs.Eight.{eightOk}
 use Rattle.undivided_run.specs.Step.{start}
@@ -16,8 +17,8 @@ use Rattle.pattern_catalog.specs.Answers.{Answer}
 use Rattle.pattern_catalog.specs.SlotRead.{sectionPart}
 use Rattle.opening.specs.Opening.{opening}
 use Rattle.fov_sweep.specs.Sweep.{sweepFits}
-use Rattle.numbers_received.specs.Received.{optionOf, configOf, stateOf}
-use Rattle.numbers_handed.specs.Handed.{openedNumber, plainNumbers, stateNumbers, partNumbers}
+use Rattle.numbers_received.specs.Received.{optionOf, configOf, stateOf, candidateFrom}
+use Rattle.numbers_handed.specs.Handed.{openedNumber, plainNumbers, stateNumbers, candidateNumbers, partNumbers}
 use Rattle.star_numbers.specs.declared.StarSettings.{StarSettings}
 use Rattle.star_numbers.specs.declared.StarState.{StarState}
 
@@ -28,6 +29,10 @@ ZeroPasses = (slots : ℕ) (words packed : List ℕ) (stars : List Float) → (o
 -- A state handed over and received again is the same state: `state-back`.
 abbrev pub StateBack : Type 0
 StateBack = (s : State) → stateOf (stateNumbers s) ≡ s
+
+-- .. and so a candidate, whose places and stars are four each: `candidate-back`.
+abbrev pub CandidateBack : Type 0
+CandidateBack = (c : Candidate) → length (c .places) ≡ 4 → length (c .stars) ≡ 4 → candidateFrom (candidateNumbers c) ≡ c
 
 -- All zero is the fresh state: `zero-is-fresh`.
 abbrev pub ZeroIsFresh : Type 0

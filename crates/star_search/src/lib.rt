@@ -2,15 +2,13 @@
 // contract is the definition of the call under it, between the definitions of what is received and of what is handed over.
 ghost use mathlib.Core.Path.{_≡_};
 ghost use lib.ListN.{length};
-ghost use Rattle.undivided_run.specs.Step.{searchCall};
-ghost use Rattle.search_feed.specs.Data.{frameOf, dataOf};
-ghost use Rattle.pattern_search.specs.Answers.{lentOf, searched};
 ghost use Rattle.pattern_catalog.specs.SlotRead.{slotRead};
 ghost use Rattle.opening.specs.Opening.{opening};
 ghost use Rattle.fov_sweep.specs.Sweep.{sweptOf, laterOf};
 ghost use Rattle.complete.specs.Completing.{completedOf};
-ghost use Rattle.numbers_received.specs.Received.{optionOf, configOf, stateOf, candidateOf};
-ghost use Rattle.numbers_handed.specs.Handed.{openedNumber, answerOf, slotNumbers, partNumbers, sweptNumbers, completedNumbers};
+ghost use Rattle.numbers_received.specs.Received.{optionOf, candidateFrom};
+ghost use Rattle.numbers_handed.specs.Handed.{openedNumber, slotNumbers, partNumbers, sweptNumbers, completedNumbers};
+ghost use Rattle.star_search.specs.Calls.{answered};
 use opening::Opened;
 use pattern_catalog::Found;
 use pattern_catalog::Slot;
@@ -48,7 +46,7 @@ pub extern "C" fn star_search(
     state: StarState,
     allowance: u64,
 ) -> StarAnswer
-    ensures { λ r. ⌜ r ≡ answerOf state (searched (searchCall (stateOf state) (lentOf (dataOf (frameOf (now (centroids .entry)) (now (order .entry)) (configOf settings) (now (passes .entry))) slots (now (words .entry)) (now (packed .entry)) (now (stars .entry))) allowance))) ⌝ }
+    ensures { λ r. ⌜ r ≡ answered state (record { centroids = now (centroids .entry); order = now (order .entry); settings = settings; passes = now (passes .entry); slots = slots; words = now (words .entry); packed = now (packed .entry); stars = now (stars .entry); allowance = allowance }) ⌝ }
 {
     let config = numbers_received::config_of(settings);
     let from = numbers_received::state_of(state);
@@ -135,7 +133,7 @@ pub extern "C" fn star_complete(
     candidate: StarCandidate,
     scale: f32,
 ) -> StarCompleted
-    ensures { λ r. ⌜ r ≡ completedNumbers (completedOf (now (centroids .entry)) (now (order .entry)) (now (passes .entry)) (now (stars .entry)) (candidateOf candidate) scale) ⌝ }
+    ensures { λ r. ⌜ r ≡ completedNumbers (completedOf (now (centroids .entry)) (now (order .entry)) (now (passes .entry)) (now (stars .entry)) (candidateFrom candidate) scale) ⌝ }
 {
     let told = numbers_received::candidate_of(candidate);
     let completed = complete::complete(centroids, order, passes, stars, told, scale);

@@ -1,25 +1,21 @@
 -- Question 8's limits hold of every state that a run from fresh leaves: at most 162,656,256 patterns and 2^62 reads. Assumes nothing.
-use mathlib.Core.Path.{_≡_, refl, sym, _∙_, ap, ap₂, subst}
+use mathlib.Core.Path.{_≡_, refl, ap}
 use Prim.Native.Nat.{ℕ, zero, suc, _+_, _-_, _*_, _≤_, _<_}
 use native.Mathlib.Omega.{arith}
-use native.Mathlib.Nat.{suc-mul, mul-le-mul-left, mul-le-mul-right, le-trans}
 use mathlib.Core.List.{List, [], _∷_, _++_, map}
 use mathlib.Core.Bool.{Bool, true, false, cond, _||_}
-use mathlib.Core.Option.{Option, none, some}
 use lib.Dec.{ltb}
 use lib.ListN.{length, take, length-append, length-take, length-map}
 use Rattle.combinations.specs.declared.Four.{Four}
 use Rattle.combinations.specs.Fours.{fours}
 use Rattle.combinations.specs.Lists.{each, span, upto}
-use Rattle.undivided_run.specs.Undivided.{Read, Run, Feed, Cap, absent, given, isZero, starts, filled, chain, readsOf, undivided}
+use Rattle.undivided_run.specs.Undivided.{Read, Feed, Cap, absent, given, isZero, starts, filled, chain, readsOf, undivided}
 use Rattle.undivided_run.specs.Calls.{tried}
 use Rattle.combinations.specs.Lists.{All}
 use Rattle.combinations.proofs.Lists.{length-each}
-use Rattle.combinations.specs.Fours.{choose}
 use Rattle.combinations.proofs.Count.{fours-64}
-use Rattle.undivided_run.specs.Tried.{capped, foursFrom, allFours, readsIn}
-use Rattle.undivided_run.proofs.Closed.{reads-closed}
-use Rattle.undivided_run.specs.Tried.{triedIn}
+use Rattle.undivided_run.specs.Tried.{capped, foursFrom, allFours}
+use Rattle.undivided_run.proofs.Closed.{readsIn, reads-closed}
 use Rattle.undivided_run.proofs.Tried.{tried-length, run-tries}
 use Rattle.undivided_run.specs.Exists.{FourHere, Within, Keyed}
 use Rattle.undivided_run.proofs.Places.{Fit, all-fit}

@@ -1,13 +1,12 @@
 -- The reads of the undivided run in one line: those of the combinations of all passes, in order, as many as the cap lets through.
 -- From it: of two caps, the higher one's reads and candidates begin with the lower one's. Assumes nothing.
-use mathlib.Core.Path.{_≡_, refl, sym, _∙_, ap, ap₂}
-use Prim.Native.Nat.{ℕ, zero, suc, _+_, _-_, _≤_, _<_}
+use mathlib.Core.Path.{_≡_, refl, sym, _∙_, ap}
+use Prim.Native.Nat.{ℕ, zero, suc, _+_, _-_}
 use native.Mathlib.Omega.{arith}
 use mathlib.Core.List.{List, [], _∷_, _++_, map, append-assoc, append-nil}
 use mathlib.Core.Bool.{Bool, true, false, cond, _||_}
-use mathlib.Core.Option.{Option, none, some}
 use borrow.Author.Tests.{leb-true, leb-false}
-use lib.Dec.{ltb, leb}
+use lib.Dec.{ltb}
 use lib.ListN.{take, drop, take-append-drop}
 use lib.Seq.{take-add}
 use Rattle.combinations.specs.declared.Four.{Four}
@@ -16,7 +15,16 @@ use Rattle.combinations.specs.Lists.{each}
 use Rattle.undivided_run.specs.Undivided.{Status, TooFew, NoMatch, Timeout, Read, Run, Feed, Cap, absent, given, reached, isZero, ended, _before_, readsOf, checked, combinations, passesFrom, undivided, gives}
 use Rattle.undivided_run.specs.Calls.{candidates}
 use Rattle.undivided_run.proofs.Machine.{candidates-append}
-use Rattle.undivided_run.specs.Tried.{left, capped, foursFrom, allFours, readsIn, Begins, NoHigher}
+use Rattle.undivided_run.specs.Tried.{capped, foursFrom, allFours, Begins, NoHigher}
+
+-- the cap, less what was tried already
+unfoldable pub left : Cap → ℕ → Cap
+left absent n = absent
+left (given m) n = given (m - n)
+
+-- the reads of these combinations
+abbrev pub readsIn : {E C : Type 0} → Feed E C → List (ℕ × Four) → List Read
+readsIn F xs = each xs λ x. readsOf F (x .0) (x .1)
 
 left-zero : (c : Cap) → left c 0 ≡ c
 unfolding left

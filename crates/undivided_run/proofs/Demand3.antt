@@ -1,11 +1,12 @@
 -- Demand 3. Assumes nothing.
 use mathlib.Core.Path.{_≡_, refl, sym, _∙_, ap, ap₂, subst}
-use Prim.Native.Nat.{ℕ, zero, suc, _+_, _≤_, _<_}
+use Prim.Native.Nat.{ℕ, zero, suc, _-_, _≤_, _<_}
 use native.Mathlib.Omega.{arith}
-use mathlib.Core.List.{List, [], _∷_, _++_}
+use mathlib.Core.List.{List, [], _∷_}
+use mathlib.Core.Logic.{inl, inr}
 use mathlib.Core.Bool.{Bool, true, false, cond}
 use mathlib.Core.Option.{Option, none, some}
-use lib.ListN.{take, drop, length}
+use lib.ListN.{take, drop, length, length-drop}
 use Rattle.undivided_run.specs.Undivided.{Status, Read, Run, Feed, Cap, cases, gives, undivided}
 use Rattle.undivided_run.specs.Calls.{Answer, candidate, used, over, refused, Fed, allowed, refusal, Machine, fresh, tried, candidates, serve, machine, calls, found}
 use Rattle.undivided_run.specs.Step.{Next, goes, ends, Stage, new, at, done, State, start, settle, bump, final, look, zeroCall, go, call, nine, Lent, search, searchCall, refusalOf, nineOf, soundAt, nextRead, firstRead}
@@ -15,7 +16,7 @@ use Rattle.undivided_run.proofs.Walking.{walks-undivided}
 use Rattle.undivided_run.proofs.Machine.{candidates-taken, progress}
 use Rattle.combinations.specs.Lists.{All}
 use Rattle.undivided_run.specs.Exists.{Here, Keyed, Opened, EightAt}
-use Rattle.undivided_run.specs.Listing.{fedFor, feeds, Fair, FairList, Leaves, onRun, Demand3}
+use Rattle.undivided_run.specs.Listing.{fedFor, feeds, Fair, FairList, Leaves, Demand3, MovesOn}
 use Rattle.undivided_run.proofs.Existing.{run-here}
 use Rattle.undivided_run.specs.Exists.{Within}
 use Rattle.undivided_run.proofs.Bounds.{reads-bound, patterns-bound}
@@ -143,7 +144,7 @@ unfolding searchCall search cases
 search-new st x h = by (x .asked st)
   where
     by : (o : Option ℕ) → New ((cases o (search (x .feed) (x .cap) st (x .allowance)) λ k. (refused k, st)) .1)
-    by none = call-new (gives (x .feed)) (soundAt (x .feed) (x .cap)) (nextRead (x .feed) (x .cap)) (firstRead (x .feed) (x .cap)) st (x .allowance) h
+    by none = call-new (gives (x .feed)) (soundAt (x .feed)) (nextRead (x .feed) (x .cap)) (firstRead (x .feed) (x .cap)) st (x .allowance) h
     by (some j) = h
 
 calls-new : {E C : Type 0} (st : State) (xs : List (Lent E C)) → New st → New ((calls searchCall st xs) .1)
@@ -183,7 +184,7 @@ unfolding searchCall search cases
 search-read st x h = by (x .asked st)
   where
     by : (o : Option ℕ) → Read-before ((cases o (search (x .feed) (x .cap) st (x .allowance)) λ k. (refused k, st)) .1)
-    by none = call-read (gives (x .feed)) (soundAt (x .feed) (x .cap)) (nextRead (x .feed) (x .cap)) (firstRead (x .feed) (x .cap)) st (x .allowance) h
+    by none = call-read (gives (x .feed)) (soundAt (x .feed)) (nextRead (x .feed) (x .cap)) (firstRead (x .feed) (x .cap)) st (x .allowance) h
     by (some j) = h
 
 calls-read : {E C : Type 0} (st : State) (xs : List (Lent E C)) → Read-before st → Read-before ((calls searchCall st xs) .1)
@@ -214,7 +215,7 @@ fed-right st x = by (x .asked st)
     pick false = refl
 
     by : (o : Option ℕ) → fedBy ((cases o (search (x .feed) (x .cap) st (x .allowance)) λ k. (refused k, st)) .0) (x .allowance) ≡ fedFor (cases o (cond (nineOf st x) (some 9) none) λ k. some k) (x .allowance)
-    by none = call-fed (gives (x .feed)) (soundAt (x .feed) (x .cap)) (nextRead (x .feed) (x .cap)) (firstRead (x .feed) (x .cap)) st (x .allowance) (x .allowance) ∙ pick (nineOf st x)
+    by none = call-fed (gives (x .feed)) (soundAt (x .feed)) (nextRead (x .feed) (x .cap)) (firstRead (x .feed) (x .cap)) st (x .allowance) (x .allowance) ∙ pick (nineOf st x)
     by (some k) = refl
 
 -- a call whose answer is no refusal is refused by no question
@@ -228,20 +229,20 @@ accepted-none (over s) (some k) a p e = cc
 
 module _ {E C : Type 0} (F : Feed E C) (cap : Cap) where
   module _ (opened : Opened F) where
-    ok : (r : Read) → soundAt F cap r ≡ true
+    ok : (r : Read) → soundAt F r ≡ true
     unfolding soundAt
     ok r = opened _
 
     -- Question 9 never refuses a call that is given what the run is fed.
     pub never-nine : (st : State) (x : Lent E C) → x .feed ≡ F → x .asked st ≡ none → refusalOf st x ≡ none
     unfolding refusalOf nineOf cases soundAt
-    never-nine st x e z = rw (z, no-nine (gives (x .feed)) (soundAt (x .feed) (x .cap)) (nextRead (x .feed) (x .cap)) (λ r. rw e (opened _)) (x .allowance) (look (firstRead (x .feed) (x .cap)) (st .phase)) (st .patterns))
+    never-nine st x e z = rw (z, no-nine (gives (x .feed)) (soundAt (x .feed)) (nextRead (x .feed) (x .cap)) (λ r. rw e (opened _)) (x .allowance) (look (firstRead (x .feed) (x .cap)) (st .phase)) (st .patterns))
 
     abbrev run : Run
     run = undivided F cap
 
     abbrev Like : State → Machine → Type 0
-    Like = Alike (gives F) (soundAt F cap) ok (firstRead F cap) (nextRead F cap) run
+    Like = Alike (gives F) (soundAt F) ok (firstRead F cap) (nextRead F cap) run
 
     abbrev Agree : Answer C × State → Answer C × Machine → Type 0
     Agree t u = (t .0 ≡ u .0) × Like (t .1) (u .1)
@@ -252,7 +253,7 @@ module _ {E C : Type 0} (F : Feed E C) (cap : Cap) where
     search-agrees : (st : State) (mc : Machine) (a : ℕ) → Like st mc → let t = search F cap st a in Agree t (machine (gives F) run mc (fedBy (t .0) a))
     unfolding search machine
     search-agrees st mc a h =
-        let e = call-alike (gives F) (soundAt F cap) ok (firstRead F cap) (nextRead F cap) run st mc a h in
+        let e = call-alike (gives F) (soundAt F) ok (firstRead F cap) (nextRead F cap) run st mc a h in
         let f : fedBy ((search F cap st a) .0) a ≡ allowed a = ap (λ w. fedBy w a) (e .0) ∙ fed-serve (gives F) _ _ a a in
         rw f e
 
@@ -362,7 +363,7 @@ module _ {E C : Type 0} (F : Feed E C) (cap : Cap) where
     start-read r e = absurd (let z : _≡_ {A = ℕ} 0 1 = cc in omega arith)
 
     start-like : Keyed F → Like opened start fresh
-    start-like keyed = start-alike (gives F) (soundAt F cap) (ok opened) (firstRead F cap) (nextRead F cap) (undivided F cap) (walks-undivided F cap keyed)
+    start-like keyed = start-alike (gives F) (soundAt F) (ok opened) (firstRead F cap) (nextRead F cap) (undivided F cap) (walks-undivided F cap keyed)
 
     -- a refused first call leaves all as it was
     refused-first : (x : Lent E C) (k : ℕ) → refusalOf start x ≡ some k → ((searchCall start x) .0 ≡ refused k) × ((searchCall start x) .1 ≡ start)
@@ -404,6 +405,26 @@ module _ {E C : Type 0} (F : Feed E C) (cap : Cap) where
           status = h .1 .status;
           leaves = h .1 .leaves;
         }
+
+    -- ---- after such a list, a call not refused and allowed a read takes a read of the run, unless none is left
+    moves-on : (st : State) (mc : Machine) (x : Lent E C) → Fair F cap st x → Like opened st mc → refusalOf st x ≡ none → 0 < x .allowance → MovesOn F cap st x
+    unfolding fedFor
+    moves-on st mc x fair h o p = by (drop (mc .taken) ((undivided F cap) .reads)) refl
+      where
+        fed : Agree opened (searchCall st x) (machine (gives F) (undivided F cap) mc (allowed (x .allowance)))
+        fed = rw (fed-right st x, o) at (call-agrees opened st mc x fair h)
+
+        some-left : (r : Read) (rs : List Read) → drop (mc .taken) ((undivided F cap) .reads) ≡ r ∷ rs → mc .taken < length ((undivided F cap) .reads)
+        some-left r rs e = omega (arith, length-drop (mc .taken) ((undivided F cap) .reads), ap length e)
+
+        by : (rs : List Read) → drop (mc .taken) ((undivided F cap) .reads) ≡ rs → MovesOn F cap st x
+        by [] e = inr (rw (h .reads) e, fed .0 ∙ (unfold machine serve in rw e))
+        by (r ∷ rs) e =
+            let z : x .allowance ≡ suc (x .allowance - 1) = omega arith in
+            inl (omega (arith, h .reads, fed .1 .reads, ap (λ a. (machine (gives F) (undivided F cap) mc (allowed a)) .1 .taken) z, progress (gives F) (undivided F cap) mc (x .allowance - 1) (some-left r rs e)))
+
+    pub moves-after : Keyed F → (xs : List (Lent E C)) → FairList F cap start xs → (x : Lent E C) → let st = (calls searchCall start xs) .1 in Fair F cap st x → refusalOf st x ≡ none → 0 < x .allowance → MovesOn F cap st x
+    moves-after keyed xs fair x f o p = moves-on _ _ x f (calls-agree opened start fresh xs fair (start-like keyed) .1) o p
 
     -- ---- question 8 never refuses a state that such a list left
     head-here : (r : Read) (n : ℕ) (rs : List Read) (s : Status) → Walks (nextRead F cap) (goes r) n rs s → All (Here F) rs → Here F r

@@ -1,30 +1,31 @@
 -- The places that exist here (question 8): every read of the undivided run is at one, and from each the search reads a list of bounded length. Assumes nothing.
-use mathlib.Core.Path.{_≡_, refl, sym, _∙_, ap, ap₂, subst}
+use mathlib.Core.Path.{_≡_, refl, ap, subst}
 use Prim.Native.Nat.{ℕ, zero, suc, pred, _+_, _-_, _*_, _≤_, _<_}
 use native.Mathlib.Omega.{arith}
-use mathlib.Core.List.{List, [], _∷_, _++_, map, append-assoc}
+use mathlib.Core.List.{List, [], _∷_, _++_, map}
 use mathlib.Core.Bool.{Bool, true, false, cond, _&&_, _||_}
 use mathlib.Core.Option.{Option, none, some}
 use lib.Dec.{ltb}
 use borrow.Author.Tests.{ltb-true}
-use lib.ListN.{length, take, length-append, length-map}
+use lib.ListN.{length, length-append, length-map}
 use Rattle.combinations.specs.declared.Four.{Four}
 use Rattle.combinations.specs.Fours.{fours}
-use Rattle.combinations.specs.Lists.{each, span, upto}
+use Rattle.combinations.specs.Lists.{each, span}
 use Rattle.combinations.specs.Successor.{firstFour, nextFour}
-use Rattle.undivided_run.specs.Undivided.{Status, TooFew, NoMatch, Timeout, Read, Run, Feed, Cap, absent, given, reached, isZero, cases, filled, chain, readsOf, combinations, passesFrom, undivided}
+use Rattle.undivided_run.specs.Undivided.{Status, TooFew, NoMatch, Read, Run, Feed, Cap, reached, isZero, cases, filled, chain, readsOf, combinations, passesFrom, undivided}
 use Rattle.combinations.specs.Lists.{All, In}
-use Rattle.combinations.proofs.Lists.{all-append, all-take, all-each, all-upto}
+use Rattle.combinations.proofs.Lists.{all-append, all-each, all-upto}
 use Rattle.combinations.specs.Fours.{Rising}
 use Rattle.combinations.proofs.EachFour.{fours-rise, fours-all}
-use Rattle.undivided_run.specs.Tried.{capped, left, foursFrom, allFours, readsIn}
-use Rattle.undivided_run.proofs.Closed.{reads-closed, fours-closed, passes-closed}
-use Rattle.undivided_run.specs.Step.{Next, goes, ends, bump, nextRead, afterFour, afterKey, toFour, toPass}
+use Rattle.undivided_run.specs.Tried.{capped, foursFrom, allFours}
+use Rattle.undivided_run.proofs.Closed.{left, readsIn, reads-closed, fours-closed, passes-closed}
+use Rattle.undivided_run.specs.Step.{Next, goes, bump, nextRead, afterFour, afterKey, toPass}
+use Rattle.undivided_run.specs.Moves.{toFour}
 use Rattle.undivided_run.specs.Step.{Walks}
 use Rattle.combinations.specs.Lists.{Follows}
 use Rattle.combinations.proofs.Walk.{walks-fours}
 use Rattle.combinations.proofs.Successor.{first-rising, next-rising}
-use Rattle.undivided_run.proofs.Walking.{next, place, chains, chain-walks, keys-walk, fours-walk, passes-walk}
+use Rattle.undivided_run.proofs.Walking.{next, chain-walks, keys-walk, fours-walk, passes-walk}
 use Rattle.undivided_run.specs.Exists.{FourHere, Here, Keyed, Within}
 use Rattle.undivided_run.specs.Good.{HereNext}
 use Rattle.combinations.proofs.Lists.{all-after, follows-mid}
@@ -157,7 +158,7 @@ module _ {E C : Type 0} (F : Feed E C) (cap : Cap) (keyed : Keyed F) where
   option none w f h k = h
   option (some q) w f h k = k q refl
 
-  to-four-here : (n i : ℕ) (q : Four) → FourHere F i q → HereNext F (toFour F cap n i q)
+  to-four-here : (n i : ℕ) (q : Four) → FourHere F i q → HereNext F (toFour cap n i q)
   unfolding toFour
   to-four-here n i q h = either (reached cap n) _ _ (λ _. tt) (λ _. record { four = h; key = keyed i q h; probe = h .slots })
 

@@ -1,11 +1,11 @@
 -- What the machine of "Calls on it" does: its candidates are those of the reads taken, and a call allowed a read takes one while one is left. Assumes nothing.
-use mathlib.Core.Path.{_≡_, refl, sym, _∙_, ap, ap₂}
-use Prim.Native.Nat.{ℕ, zero, suc, _+_, _≤_, _<_}
+use mathlib.Core.Path.{_≡_, refl, ap}
+use Prim.Native.Nat.{ℕ, zero, suc, _<_}
 use native.Mathlib.Omega.{arith}
 use mathlib.Core.List.{List, [], _∷_, _++_, append-assoc, append-nil}
 use mathlib.Core.Option.{Option, none, some}
 use lib.ListN.{take, drop, length, length-drop}
-use lib.Seq.{drop-drop, take-add}
+use lib.Seq.{take-add}
 use Rattle.undivided_run.specs.Undivided.{Status, Read, Run, cases}
 use Rattle.undivided_run.specs.Calls.{Answer, candidate, used, over, refused, Fed, allowed, refusal, Machine, fresh, candidates, serve, machine, calls, found}
 

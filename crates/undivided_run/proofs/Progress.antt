@@ -1,6 +1,6 @@
 -- A call moves: not refused and allowed a read it reads a slot unless none is left, "allowance used" is exactly the allowance, and an ended state ends again alike.
 -- For any state and anything lent. Assumes nothing.
-use mathlib.Core.Path.{_≡_, refl, sym, _∙_, ap}
+use mathlib.Core.Path.{_≡_, refl, _∙_}
 use Prim.Native.Nat.{ℕ, zero, suc, _+_, _≤_, _<_}
 use native.Mathlib.Omega.{arith}
 use mathlib.Core.Logic.{_⊎_, inl, inr}
@@ -8,7 +8,7 @@ use mathlib.Core.Bool.{Bool, true, false, cond}
 use mathlib.Core.Option.{Option, none, some}
 use Rattle.undivided_run.specs.Undivided.{Status, Read, cases, gives}
 use Rattle.undivided_run.specs.Calls.{Answer, candidate, used, over, refused}
-use Rattle.undivided_run.specs.Step.{Next, goes, ends, Stage, new, at, done, State, settle, bump, look, zeroCall, go, call, nine, Lent, search, searchCall, refusalOf, nineOf, soundAt, nextRead, firstRead}
+use Rattle.undivided_run.specs.Step.{Next, goes, ends, done, State, settle, bump, look, zeroCall, go, call, nine, Lent, search, searchCall, refusalOf, nineOf, soundAt, nextRead, firstRead}
 use Rattle.undivided_run.specs.Listing.{ProgressAny, UsedExactly, EndsAlike}
 
 -- ---- one read, by whether its entry is sound and what it gives
@@ -92,7 +92,7 @@ module _ {E C : Type 0} (st : State) (x : Lent E C) where
   unfolding refusalOf nineOf search
   progress-any h p =
       rw (taken-up h)
-      (call-moves (gives (x .feed)) (soundAt (x .feed) (x .cap)) (nextRead (x .feed) (x .cap)) (firstRead (x .feed) (x .cap)) st (x .allowance) (cleared (x .asked st) (nineOf st x) h .1) p)
+      (call-moves (gives (x .feed)) (soundAt (x .feed)) (nextRead (x .feed) (x .cap)) (firstRead (x .feed) (x .cap)) st (x .allowance) (cleared (x .asked st) (nineOf st x) h .1) p)
 
   pub used-exactly : UsedExactly st x
   unfolding searchCall search cases

@@ -1,5 +1,5 @@
 -- A successor that walks a run's reads: the bounded calls on it answer as the machine on the run does. Assumes nothing.
-use mathlib.Core.Path.{_≡_, refl, sym, _∙_, ap, ap₂}
+use mathlib.Core.Path.{_≡_, refl, _∙_, ap}
 use Prim.Native.Nat.{ℕ, zero, suc, _+_, _≤_}
 use native.Mathlib.Omega.{arith}
 use mathlib.Core.List.{List, [], _∷_, _++_}
@@ -8,7 +8,7 @@ use mathlib.Core.Option.{Option, none, some}
 use lib.ListN.{take, drop, length, length-drop}
 use lib.Seq.{drop-drop, take-add}
 use Rattle.undivided_run.specs.Undivided.{Status, Read, Run, starts, cases}
-use Rattle.undivided_run.specs.Calls.{Answer, candidate, used, over, refused, Fed, allowed, refusal, Machine, fresh, finalOf, tried, candidates, serve, machine, calls}
+use Rattle.undivided_run.specs.Calls.{Answer, candidate, allowed, Machine, fresh, finalOf, tried, serve, machine}
 use Rattle.undivided_run.specs.Step.{Next, goes, ends, Stage, new, at, done, State, start, settle, final, bump, look, go, zeroCall, call}
 use Rattle.undivided_run.specs.Step.{Walks}
 

@@ -4,7 +4,6 @@ use Prim.Native.Nat.{ℕ, zero, suc, _+_, _-_, _≤_, _<_}
 use native.Mathlib.Omega.{arith}
 use native.Mathlib.Numerals.{add-one}
 use mathlib.Core.Bool.{Bool, true, false, cond, _||_}
-use mathlib.Core.Option.{Option, none, some}
 use lib.Dec.{ltb}
 use borrow.Author.Tests.{lt-ltb, le-ltb}
 use Rattle.combinations.specs.declared.Four.{Four}
@@ -12,8 +11,8 @@ use Rattle.combinations.specs.Successor.{firstFour, nextFour, maybeOf}
 use Rattle.combinations.specs.declared.MaybeFour.{MaybeFour}
 use Rattle.combinations.specs.declared.MaybeFour.the-variants.{Next as Following, Nothing}
 use Rattle.undivided_run.specs.Undivided.{Status, TooFew, NoMatch, Timeout, Read, Feed, Cap, reached, isZero, cases, filled, starts}
-use Rattle.undivided_run.specs.Step.{Next, goes, ends, bump, toFour, toPass, afterFour, afterKey, nextRead}
-use Rattle.undivided_run.specs.Moves.{firstOf, probed, keyed, fourNext}
+use Rattle.undivided_run.specs.Step.{Next, goes, ends, bump, toPass, afterFour, afterKey, nextRead}
+use Rattle.undivided_run.specs.Moves.{firstOf, probed, keyed, toFour}
 
 pub zero-not : (x : ℕ) → (x ≡ 0 → ⊥) → isZero x ≡ false
 unfolding isZero
@@ -48,7 +47,7 @@ module _ {E C : Type 0} (F : Feed E C) (cap : Cap) (tried : ℕ) where
   from-end i s h = let e : F .passes - i ≡ 0 = omega arith in rw e
 
   module _ (i : ℕ) (s : Status) (h : i < F .passes) where
-    from-at : from i s ≡ cond (reached cap tried) (ends Timeout) (cond (ltb (F .kept i) 4) (from (suc i) TooFew) (cond (isZero (F .slots) || isZero (F .patterns)) (from (suc i) NoMatch) (cases (firstFour (F .kept i)) (from (suc i) NoMatch) λ q. toFour F cap tried i q)))
+    from-at : from i s ≡ cond (reached cap tried) (ends Timeout) (cond (ltb (F .kept i) 4) (from (suc i) TooFew) (cond (isZero (F .slots) || isZero (F .patterns)) (from (suc i) NoMatch) (cases (firstFour (F .kept i)) (from (suc i) NoMatch) λ q. toFour cap tried i q)))
     unfolding toPass
     from-at = let e : F .passes - i ≡ suc (F .passes - suc i) = omega arith in ap (λ n. toPass F cap n i s tried) e
 
@@ -74,8 +73,8 @@ module _ {E C : Type 0} (F : Feed E C) (cap : Cap) (tried : ℕ) where
 
   -- ---- after the last read of a combination
   module _ (i : ℕ) (q : Four) (k : ℕ) (ke : k ≡ F .kept i) (m : MaybeFour) (me : maybeOf m ≡ nextFour k q) where
-    pub four-more : (p : Four) → m ≡ Following p → afterFour F cap i q tried ≡ fourNext cap tried i p
-    unfolding afterFour cases toFour
+    pub four-more : (p : Four) → m ≡ Following p → afterFour F cap i q tried ≡ toFour cap tried i p
+    unfolding afterFour cases
     four-more p e = rw (← ke, ← me, e)
 
     pub four-last : m ≡ Nothing → afterFour F cap i q tried ≡ from (i + 1) NoMatch
@@ -90,7 +89,7 @@ module _ {E C : Type 0} (F : Feed E C) (cap : Cap) (tried : ℕ) where
     module _ (k : ℕ) (ke : k ≡ F .keys (r .pass) (r .four)) where
       pub key-more : r .key + 1 < k → past ≡ goes (keyed r)
       unfolding afterKey
-      key-more h = rw (← ke, lt-ltb (suc (r .key)) k (omega arith), add-one)
+      key-more h = rw (← ke, lt-ltb (suc (r .key)) k (omega arith))
 
       pub key-last : k ≤ r .key + 1 → past ≡ afterFour F cap (r .pass) (r .four) tried
       unfolding afterKey
@@ -99,7 +98,7 @@ module _ {E C : Type 0} (F : Feed E C) (cap : Cap) (tried : ℕ) where
     module _ (b : Bool) (e : b ≡ filled F r) where
       pub probe-more : b ≡ true → r .probe + 1 < F .slots → nextRead F cap r tried ≡ goes (probed r)
       unfolding nextRead
-      probe-more f h = rw (← e, f, lt-ltb (suc (r .probe)) (F .slots) (omega arith), add-one)
+      probe-more f h = rw (← e, f, lt-ltb (suc (r .probe)) (F .slots) (omega arith))
 
       pub probe-last : b ≡ true → F .slots ≤ r .probe + 1 → nextRead F cap r tried ≡ past
       unfolding nextRead

@@ -1,19 +1,17 @@
 -- The combinations that the undivided run tries: those of all passes, in order, each once, as many as the cap lets through. Assumes nothing.
-use mathlib.Core.Path.{_≡_, refl, sym, _∙_, ap, ap₂}
-use Prim.Native.Nat.{ℕ, zero, suc, pred, _+_, _-_, _≤_, _<_}
+use mathlib.Core.Path.{_≡_, refl, _∙_, ap, ap₂}
+use Prim.Native.Nat.{ℕ, zero, suc, _<_}
 use native.Mathlib.Omega.{arith}
 use native.Mathlib.Nat.{sub-zero}
-use mathlib.Core.List.{List, [], _∷_, _++_, map, append-assoc, append-nil}
-use mathlib.Core.Bool.{Bool, true, false, cond, _||_}
+use mathlib.Core.List.{List, [], _∷_, _++_}
+use mathlib.Core.Bool.{Bool, true, false, cond}
 use lib.ListN.{length}
-use lib.Dec.{ltb}
 use Rattle.combinations.specs.declared.Four.{Four}
-use Rattle.combinations.specs.Fours.{fours}
 use Rattle.combinations.specs.Lists.{each, span, upto}
-use Rattle.undivided_run.specs.Undivided.{Read, Feed, Cap, absent, given, isZero, starts, filled, chain, readsOf, undivided}
+use Rattle.undivided_run.specs.Undivided.{Read, Feed, Cap, isZero, starts, filled, chain, readsOf, undivided}
 use Rattle.undivided_run.specs.Calls.{tried}
-use Rattle.undivided_run.specs.Tried.{capped, foursFrom, allFours}
-use Rattle.undivided_run.proofs.Closed.{capped-nil, reads-closed}
+use Rattle.undivided_run.specs.Tried.{capped, allFours}
+use Rattle.undivided_run.proofs.Closed.{reads-closed}
 use Rattle.undivided_run.specs.Tried.{triedIn}
 use Rattle.combinations.specs.Lists.{All}
 use Rattle.undivided_run.specs.Exists.{Keyed}

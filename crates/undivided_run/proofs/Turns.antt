@@ -5,23 +5,24 @@ use native.Mathlib.Omega.{arith}
 use native.Mathlib.Numerals.{add-one}
 use mathlib.Core.List.{List, [], _∷_}
 use mathlib.Core.Bool.{Bool, true, false, cond}
-use mathlib.Core.Option.{Option, none, some}
+use mathlib.Core.Option.{none, some}
 use lib.ListN.{length}
 use Rattle.undivided_run.specs.Undivided.{Status, NoMatch, Read, Feed, Cap, cases, gives, undivided, starts}
 use Rattle.undivided_run.specs.Calls.{Answer, candidate, used, over, refused}
-use Rattle.undivided_run.specs.Step.{Next, goes, ends, Stage, new, at, done, State, Walks, settle, bump, look, zeroCall, go, call, search, soundAt, nextRead, firstRead}
-use Rattle.undivided_run.specs.Exists.{Here, Keyed, Within, EightAt}
-use Rattle.undivided_run.specs.Good.{HereNext, Room, Good, goesOn, begun}
+use Rattle.undivided_run.specs.Step.{goes, ends, Stage, new, at, done, State, Walks, settle, bump, look, zeroCall, go, call, search, soundAt, nextRead, firstRead}
+use Rattle.undivided_run.specs.Exists.{Keyed, Within, EightAt}
+use Rattle.undivided_run.specs.Good.{Room, Good, goesOn, afterRead}
 use Rattle.undivided_run.specs.declared.Walk.{Walk}
 use Rattle.undivided_run.proofs.Walking.{walks-undivided}
 use Rattle.undivided_run.proofs.Bounds.{reads-bound}
 use Rattle.undivided_run.proofs.Existing.{readsFrom, walks-from, readsFrom-bound, to-pass-here, next-here}
 
+-- where a call begins
+abbrev pub begun : {E C : Type 0} → Feed E C → Cap → State → Walk
+begun F cap st = record { next = look (firstRead F cap) (st .phase); patterns = st .patterns; reads = st .reads }
+
 module _ {E C : Type 0} (F : Feed E C) (cap : Cap) (keyed : Keyed F) where
   -- ---- after a read the walk is good again
-  abbrev pub afterRead : Walk → Read → Walk
-  afterRead w r = record { next = nextRead F cap r (bump r (w .patterns)); patterns = bump r (w .patterns); reads = w .reads + 1 }
-
   bump-most : (r : Read) (n : ℕ) → bump r n ≤ suc n
   unfolding bump
   bump-most r n = two (starts r)
@@ -36,7 +37,7 @@ module _ {E C : Type 0} (F : Feed E C) (cap : Cap) (keyed : Keyed F) where
       let z : x ≡ r = cc (h .0) in
       record { reads = rs; status = s; walks = rw z at (h .1); counted = omega arith; tried = omega (arith, bump-most r (w .patterns)) }
 
-  pub good-after : (w : Walk) (r : Read) → w .next ≡ goes r → Good F cap w → Good F cap (afterRead w r)
+  pub good-after : (w : Walk) (r : Read) → w .next ≡ goes r → Good F cap w → Good F cap (afterRead F cap w r)
   good-after w r e g =
       record {
         here = next-here F cap keyed r (bump r (w .patterns)) (rw e at (g .here));
@@ -91,7 +92,7 @@ module _ {E C : Type 0} (F : Feed E C) (cap : Cap) (st : State) (a : ℕ) (w : W
   unfolding go settle
   turn-ends s e = rw e (by a)
     where
-      by : (a : ℕ) → go (gives F) (soundAt F cap) (nextRead F cap) st a (ends s) (w .patterns) (w .reads) ≡ (over s, left (done s))
+      by : (a : ℕ) → go (gives F) (soundAt F) (nextRead F cap) st a (ends s) (w .patterns) (w .reads) ≡ (over s, left (done s))
       by zero = refl
       by (suc a) = refl
 
@@ -101,20 +102,20 @@ module _ {E C : Type 0} (F : Feed E C) (cap : Cap) (st : State) (a : ℕ) (w : W
 
   module _ (r : Read) (e : w .next ≡ goes r) (p : 0 < a) where
     abbrev then : Walk
-    then = record { next = nextRead F cap r (bump r (w .patterns)); patterns = bump r (w .patterns); reads = w .reads + 1 }
+    then = afterRead F cap w r
 
-    go-read : rest ≡ cond (soundAt F cap r) (cases (gives F r) (goesOn F cap st (a - 1) then) λ x. (candidate x, record { phase = settle (then .next); patterns = then .patterns; reads = then .reads })) (refused 9, st)
+    go-read : rest ≡ cond (soundAt F r) (cases (gives F r) (goesOn F cap st (a - 1) then) λ x. (candidate x, record { phase = settle (then .next); patterns = then .patterns; reads = then .reads })) (refused 9, st)
     unfolding go
-    go-read = let z : a ≡ suc (a - 1) = omega arith in ap (λ n. go (gives F) (soundAt F cap) (nextRead F cap) st n (w .next) (w .patterns) (w .reads)) z ∙ rw (e, add-one)
+    go-read = let z : a ≡ suc (a - 1) = omega arith in ap (λ n. go (gives F) (soundAt F) (nextRead F cap) st n (w .next) (w .patterns) (w .reads)) z ∙ rw (e, add-one)
 
-    pub turn-refused : soundAt F cap r ≡ false → rest ≡ (refused 9, st)
+    pub turn-refused : soundAt F r ≡ false → rest ≡ (refused 9, st)
     turn-refused s = go-read ∙ rw s
 
-    pub turn-hit : (f : C) → soundAt F cap r ≡ true → gives F r ≡ some f → rest ≡ (candidate f, record { phase = settle (then .next); patterns = then .patterns; reads = then .reads })
+    pub turn-hit : (f : C) → soundAt F r ≡ true → gives F r ≡ some f → rest ≡ (candidate f, record { phase = settle (then .next); patterns = then .patterns; reads = then .reads })
     unfolding cases
     turn-hit f s g = go-read ∙ rw (s, g)
 
-    pub turn-passed : soundAt F cap r ≡ true → gives F r ≡ none → goesOn F cap st (a - 1) then ≡ rest
+    pub turn-passed : soundAt F r ≡ true → gives F r ≡ none → goesOn F cap st (a - 1) then ≡ rest
     unfolding cases
     turn-passed s g = sym (go-read ∙ rw (s, g))
 

@@ -1,19 +1,20 @@
 -- The search's successor walks the undivided run. Assumes nothing.
-use mathlib.Core.Path.{_≡_, refl, sym, _∙_, ap, ap₂}
-use Prim.Native.Nat.{ℕ, zero, suc, pred, _+_, _-_, _≤_, _<_}
+use mathlib.Core.Path.{_≡_, refl}
+use Prim.Native.Nat.{ℕ, zero, suc, pred, _+_, _-_}
 use native.Mathlib.Omega.{arith}
 use native.Mathlib.Nat.{sub-zero}
-use mathlib.Core.List.{List, [], _∷_, _++_, append-assoc, append-nil}
+use mathlib.Core.List.{List, [], _∷_, _++_, append-assoc}
 use mathlib.Core.Bool.{Bool, true, false, cond, _&&_, _||_}
-use mathlib.Core.Option.{Option, none, some}
+use mathlib.Core.Option.{Option}
 use borrow.Author.Tests.{lt-ltb, le-ltb}
 use lib.Dec.{ltb}
 use Rattle.combinations.specs.declared.Four.{Four}
 use Rattle.combinations.specs.Fours.{fours}
 use Rattle.combinations.specs.Lists.{each, span, upto}
 use Rattle.combinations.specs.Successor.{firstFour, nextFour}
-use Rattle.undivided_run.specs.Undivided.{Status, TooFew, NoMatch, Timeout, Read, Run, Feed, Cap, reached, isZero, cases, starts, filled, ended, _before_, chain, readsOf, checked, combinations, passesFrom, undivided}
-use Rattle.undivided_run.specs.Step.{Next, goes, ends, bump, toFour, toPass, afterFour, afterKey, nextRead, firstRead}
+use Rattle.undivided_run.specs.Undivided.{Status, TooFew, NoMatch, Read, Run, Feed, Cap, reached, isZero, cases, starts, filled, ended, _before_, chain, readsOf, checked, combinations, passesFrom, undivided}
+use Rattle.undivided_run.specs.Step.{Next, goes, bump, toPass, afterFour, afterKey, nextRead, firstRead}
+use Rattle.undivided_run.specs.Moves.{toFour}
 use Rattle.undivided_run.specs.Step.{Walks}
 use Rattle.combinations.specs.Lists.{Follows}
 use Rattle.combinations.specs.Lists.{All}
@@ -83,7 +84,7 @@ module _ {E C : Type 0} (F : Feed E C) (cap : Cap) where
         (refl, chain-walks s (chains i q 1 ks ++ rs) i q 0 (suc n) sl 0 (omega arith) (keys-walk s rs i q (suc n) ks 0 (omega arith) h))
 
     -- a pass's combinations, in the order in which the successor of fours gives them
-    pub fours-walk : Keyed F → (i left : ℕ) → F .passes - suc i ≡ left → (rest : ℕ → Run) → ((n : ℕ) → To (toPass F cap left (suc i) NoMatch n) n (rest n)) → (qs : List Four) (o : Option Four) (n : ℕ) → All (FourHere F i) qs → Follows (nextFour (F .kept i)) o qs → To (cases o (toPass F cap left (suc i) NoMatch n) (λ q. toFour F cap n i q)) n (combinations F cap i qs rest n)
+    pub fours-walk : Keyed F → (i left : ℕ) → F .passes - suc i ≡ left → (rest : ℕ → Run) → ((n : ℕ) → To (toPass F cap left (suc i) NoMatch n) n (rest n)) → (qs : List Four) (o : Option Four) (n : ℕ) → All (FourHere F i) qs → Follows (nextFour (F .kept i)) o qs → To (cases o (toPass F cap left (suc i) NoMatch n) (λ q. toFour cap n i q)) n (combinations F cap i qs rest n)
     unfolding combinations cases toFour checked ended _before_ afterFour
     fours-walk keyed i left e rest h [] o n a f = rw f (h n)
     fours-walk keyed i left e rest h (q ∷ qs) o n a f =

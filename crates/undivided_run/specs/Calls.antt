@@ -1,11 +1,12 @@
 -- Document 01, "Calls on it". Assumes nothing.
 use Prim.Native.Nat.{ℕ, zero, suc, _+_}
-use mathlib.Core.List.{List, [], _∷_, _++_}
-use mathlib.Core.Bool.{Bool, true, false, cond}
+use mathlib.Core.List.{List, [], _∷_}
+use mathlib.Core.Bool.{cond}
 use mathlib.Core.Option.{Option, none, some}
-use lib.ListN.{take, drop}
+use lib.ListN.{drop}
 use Rattle.undivided_run.specs.Undivided.{Status, Read, Run, starts, cases}
 
+-- What a call answers: a candidate, allowance used, ended with a status, or refused with a number.
 pub data Answer (C : Type 0) : Type 0 where
   candidate : C → Answer C
   used : Answer C
@@ -22,6 +23,7 @@ pub record Machine : Type 0 where
   pub taken : ℕ
   pub final : Option Status
 
+-- the machine before any call
 unfoldable pub fresh : Machine
 fresh = record { taken = 0; final = none }
 
@@ -48,6 +50,8 @@ module _ {C : Type 0} (gives : Read → Option C) where
   serve s (r ∷ rs) (suc a) =
       cases (gives r) ((serve s rs a) .0, suc ((serve s rs a) .1)) λ x. (candidate x, 1)
 
+  -- One call on the run: a refused one answers its number and leaves the machine as it was; any other takes the run's reads after the n-th,
+  -- stops and answers as `serve` says, and n grows by what it took.
   unfoldable pub machine : Run → Machine → Fed → Answer C × Machine
   machine run m (refusal k) = (refused k, m)
   machine run m (allowed a) =

@@ -1,7 +1,7 @@
 pub mod Undivided
 pub mod Calls
-pub mod Step
 pub mod Moves
+pub mod Step
 pub mod Exists
 pub mod Tried
 pub mod Listing

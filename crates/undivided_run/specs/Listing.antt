@@ -1,6 +1,6 @@
 -- A list of search calls from a fresh state, and what demand 3 says of it. Definitions only.
 use mathlib.Core.Path.{_≡_}
-use Prim.Native.Nat.{ℕ, suc, _+_, _<_}
+use Prim.Native.Nat.{ℕ, _+_, _<_}
 use mathlib.Core.Logic.{_⊎_}
 use mathlib.Core.List.{List, [], _∷_}
 use mathlib.Core.Option.{Option, none, some}
@@ -47,6 +47,12 @@ module _ {E C : Type 0} (F : Feed E C) (cap : Cap) where
     pub patterns : (calls searchCall start xs) .1 .patterns ≡ tried (take ((calls searchCall start xs) .1 .reads) ((undivided F cap) .reads))
     pub status : final ((calls searchCall start xs) .1 .phase) ≡ (onRun xs) .1 .final
     pub leaves : Leaves (undivided F cap) ((onRun xs) .1) ((calls searchCall start xs) .1)
+
+  -- A call makes a read, or the run has no read after those counted and the call ends with its status: `moves-after`.
+  abbrev pub MovesOn : State → Lent E C → Type 0
+  MovesOn st x =
+      (st .reads < (searchCall st x) .1 .reads)
+      ⊎ ((drop (st .reads) ((undivided F cap) .reads) ≡ []) × ((searchCall st x) .0 ≡ over ((undivided F cap) .status)))
 
 -- A call not refused and allowed a read reads a slot unless no read is left, for any state and anything lent: `progress-any`.
 abbrev pub ProgressAny : {E C : Type 0} → State → Lent E C → Type 0

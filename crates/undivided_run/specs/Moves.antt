@@ -1,22 +1,27 @@
--- The small moves of a position, as the code makes them. Definitions only.
-use Prim.Native.Nat.{ℕ, _+_}
+-- The small moves of a position. Definitions only.
+use Prim.Native.Nat.{ℕ, suc}
 use mathlib.Core.Bool.{cond}
 use Rattle.combinations.specs.declared.Four.{Four}
 use Rattle.undivided_run.specs.Undivided.{Timeout, Read, Cap, reached}
-use Rattle.undivided_run.specs.Step.{Next, goes, ends}
+use Rattle.undivided_run.specs.declared.Next.{Next}
+use Rattle.undivided_run.specs.declared.Next.the-variants.{Goes as goes, Ends as ends}
 
--- the first read of a combination
+-- the first read of key k of combination q of pass i
+abbrev pub firstOfKey : ℕ → Four → ℕ → Read
+firstOfKey i q k = record { pass = i; four = q; key = k; probe = 0 }
+
+-- .. of the combination
 abbrev pub firstOf : ℕ → Four → Read
-firstOf i q = record { pass = i; four = q; key = 0; probe = 0 }
+firstOf i q = firstOfKey i q 0
 
 -- the next probe of the same key
 abbrev pub probed : Read → Read
-probed r = record { pass = r .pass; four = r .four; key = r .key; probe = r .probe + 1 }
+probed r = record { pass = r .pass; four = r .four; key = r .key; probe = suc (r .probe) }
 
 -- the first probe of the next key
 abbrev pub keyed : Read → Read
-keyed r = record { pass = r .pass; four = r .four; key = r .key + 1; probe = 0 }
+keyed r = firstOfKey (r .pass) (r .four) (suc (r .key))
 
 -- the first read of a combination, the cap asked before it
-abbrev pub fourNext : Cap → ℕ → ℕ → Four → Next
-fourNext cap tried i q = cond (reached cap tried) (ends Timeout) (goes (firstOf i q))
+unfoldable pub toFour : Cap → ℕ → ℕ → Four → Next
+toFour cap tried i q = cond (reached cap tried) (ends Timeout) (goes (firstOf i q))

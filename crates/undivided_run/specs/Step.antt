@@ -1,5 +1,5 @@
 -- The search call that the code makes: the next read is worked out from the present one. Assumes nothing.
-use Prim.Native.Nat.{ℕ, zero, suc, _+_, _-_}
+use Prim.Native.Nat.{ℕ, zero, suc, _-_}
 use mathlib.Core.Path.{_≡_}
 use mathlib.Core.List.{List, [], _∷_}
 use mathlib.Core.Bool.{Bool, true, false, cond, _&&_, _||_}
@@ -9,6 +9,7 @@ use Rattle.combinations.specs.declared.Four.{Four}
 use Rattle.combinations.specs.Successor.{firstFour, nextFour}
 use Rattle.undivided_run.specs.Undivided.{Status, TooFew, NoMatch, Timeout, Read, Feed, Cap, reached, isZero, cases, starts, slotOf, filled, gives}
 use Rattle.undivided_run.specs.Calls.{Answer, candidate, used, over, refused}
+use Rattle.undivided_run.specs.Moves.{firstOfKey, probed, toFour}
 pub use Rattle.undivided_run.specs.declared.Next.{Next}
 pub use Rattle.undivided_run.specs.declared.Next.the-variants.{Goes as goes, Ends as ends}
 pub use Rattle.undivided_run.specs.declared.Phase.{Phase as Stage}
@@ -19,15 +20,18 @@ pub use Rattle.undivided_run.specs.declared.State.{State}
 unfoldable pub start : State
 start = record { phase = new; patterns = 0; reads = 0 }
 
+-- where a state stands that has this before it
 unfoldable pub settle : Next → Stage
 settle (goes r) = at r
 settle (ends s) = done s
 
+-- the status of an ended state
 unfoldable pub final : Stage → Option Status
 final new = none
 final (at r) = none
 final (done s) = some s
 
+-- the combinations counted once this read is made, n before it
 unfoldable pub bump : Read → ℕ → ℕ
 bump r n = cond (starts r) (suc n) n
 
@@ -47,8 +51,9 @@ unfoldable pub zeroCall : {C : Type 0} → State → Next → Answer C × State
 zeroCall st (ends s) = (over s, record { phase = done s; patterns = st .patterns; reads = st .reads })
 zeroCall st (goes r) = (used, st)
 
--- A bounded iteration over any successor: `first` read, `next` read with the patterns counted by then.
+-- A call over any successor: `next` is the read after a read, with the combinations counted by then.
 module _ {C : Type 0} (gives : Read → Option C) (sound : Read → Bool) (next : Read → ℕ → Next) where
+  -- The rest of a call: the reads still allowed, what comes next, and the n combinations and m reads counted so far.
   -- `st` is the state received, which a refusal in the middle hands back.
   unfoldable pub go : State → ℕ → Next → ℕ → ℕ → Answer C × State
   go st zero (ends s) n m = (over s, record { phase = done s; patterns = n; reads = m })
@@ -69,16 +74,17 @@ module _ {C : Type 0} (gives : Read → Option C) (sound : Read → Bool) (next 
   nine (suc a) (goes r) n =
       cond (sound r) (cases (gives r) (nine a (next r (bump r n)) (bump r n)) λ x. false) true
 
+  -- a call with this allowance; `first` is the first read of all
   unfoldable pub call : Next → State → ℕ → Answer C × State
   call first st zero = zeroCall st (look first (st .phase))
   call first st (suc a) = go st (suc a) (look first (st .phase)) (st .patterns) (st .reads)
 
+-- question 9, asked at every filled slot that is read
+unfoldable pub soundAt : {E C : Type 0} → Feed E C → Read → Bool
+soundAt F r = cases (F .entry (slotOf F r)) true (F .sound)
+
 -- The successor of the search itself.
 module _ {E C : Type 0} (F : Feed E C) (cap : Cap) where
-  -- the first read of a combination, the cap asked before it
-  unfoldable pub toFour : ℕ → ℕ → Four → Next
-  toFour tried i q = cond (reached cap tried) (ends Timeout) (goes (record { pass = i; four = q; key = 0; probe = 0 }))
-
   -- the first read of the passes from i on, `left` of them; `status` is that of the pass before
   unfoldable pub toPass : ℕ → ℕ → Status → ℕ → Next
   toPass zero i status tried = ends status
@@ -88,38 +94,34 @@ module _ {E C : Type 0} (F : Feed E C) (cap : Cap) where
       (toPass left (suc i) TooFew tried)
       (cond (isZero (F .slots) || isZero (F .patterns))
       (toPass left (suc i) NoMatch tried)
-      (cases (firstFour (F .kept i)) (toPass left (suc i) NoMatch tried) λ q. toFour tried i q)))
+      (cases (firstFour (F .kept i)) (toPass left (suc i) NoMatch tried) λ q. toFour cap tried i q)))
 
   -- the read after the last of a combination
   unfoldable pub afterFour : ℕ → Four → ℕ → Next
   afterFour i q tried =
       cases (nextFour (F .kept i) q)
       (toPass (F .passes - suc i) (suc i) NoMatch tried)
-      λ p. toFour tried i p
+      λ p. toFour cap tried i p
 
   -- the read after the last of a key
   unfoldable pub afterKey : ℕ → Four → ℕ → ℕ → Next
   afterKey i q k tried =
-      cond (ltb (suc k) (F .keys i q))
-      (goes (record { pass = i; four = q; key = suc k; probe = 0 }))
-      (afterFour i q tried)
+      cond (ltb (suc k) (F .keys i q)) (goes (firstOfKey i q (suc k))) (afterFour i q tried)
 
+  -- the read after a read, with the combinations tried by then
   unfoldable pub nextRead : Read → ℕ → Next
   nextRead r tried =
       cond (filled F r && ltb (suc (r .probe)) (F .slots))
-      (goes (record { pass = r .pass; four = r .four; key = r .key; probe = suc (r .probe) }))
+      (goes (probed r))
       (afterKey (r .pass) (r .four) (r .key) tried)
 
+  -- the first read of all, or the status of a run without a read
   unfoldable pub firstRead : Next
   firstRead = toPass (F .passes) 0 NoMatch 0
 
-  -- question 9, asked at every filled slot that is read
-  unfoldable pub soundAt : Read → Bool
-  soundAt r = cases (F .entry (slotOf F r)) true (F .sound)
-
   -- A call that questions 1 to 8 let through.
   unfoldable pub search : State → ℕ → Answer C × State
-  search = call (gives F) soundAt nextRead firstRead
+  search = call (gives F) (soundAt F) nextRead firstRead
 
 -- What a call is lent: what the run is fed, its cap, the allowance; `asked` are questions 1 to 8, the number of the first no.
 pub record Lent (E C : Type 0) : Type 0 where
@@ -132,9 +134,10 @@ pub record Lent (E C : Type 0) : Type 0 where
 unfoldable pub searchCall : {E C : Type 0} → State → Lent E C → Answer C × State
 searchCall st x = cases (x .asked st) (search (x .feed) (x .cap) st (x .allowance)) λ k. (refused k, st)
 
+-- whether question 9 refuses a call that questions 1 to 8 let through
 unfoldable pub nineOf : {E C : Type 0} → State → Lent E C → Bool
 nineOf st x =
-    nine (gives (x .feed)) (soundAt (x .feed) (x .cap)) (nextRead (x .feed) (x .cap))
+    nine (gives (x .feed)) (soundAt (x .feed)) (nextRead (x .feed) (x .cap))
     (x .allowance)
     (look (firstRead (x .feed) (x .cap)) (st .phase))
     (st .patterns)

@@ -1,24 +1,18 @@
 -- The combinations that a run tries, and lists of which one begins with the other. Definitions only.
 use mathlib.Core.Path.{_≡_}
-use Prim.Native.Nat.{ℕ, zero, suc, _-_, _≤_}
+use Prim.Native.Nat.{ℕ, zero, suc, _≤_}
 use mathlib.Core.List.{List, [], _∷_, _++_, map}
 use mathlib.Core.Bool.{cond, _||_}
 use lib.Dec.{ltb}
 use lib.ListN.{take}
 use Rattle.combinations.specs.declared.Four.{Four}
 use Rattle.combinations.specs.Fours.{fours}
-use Rattle.combinations.specs.Lists.{each}
-use Rattle.undivided_run.specs.Undivided.{Read, Feed, Cap, absent, given, isZero, starts, readsOf}
+use Rattle.undivided_run.specs.Undivided.{Read, Feed, Cap, absent, given, isZero, starts}
 
 -- The combinations tried in these reads, each with its pass, in order.
 unfoldable pub triedIn : List Read → List (ℕ × Four)
 triedIn [] = []
 triedIn (r ∷ rs) = cond (starts r) ((r .pass, r .four) ∷ triedIn rs) (triedIn rs)
-
--- the cap, less what was tried already
-unfoldable pub left : Cap → ℕ → Cap
-left absent n = absent
-left (given m) n = given (m - n)
 
 -- as many of a list as a cap lets through
 unfoldable pub capped : {A : Type 0} → Cap → List A → List A
@@ -37,10 +31,6 @@ module _ {E C : Type 0} (F : Feed E C) where
   -- .. of all passes: every four of the kept centroids of each pass, by sum of positions and then lexicographically
   unfoldable pub allFours : List (ℕ × Four)
   allFours = foursFrom (F .passes) 0
-
-  -- the reads of these combinations
-  abbrev pub readsIn : List (ℕ × Four) → List Read
-  readsIn xs = each xs λ x. readsOf F (x .0) (x .1)
 
 -- the second list begins with the first
 abbrev pub Begins : {A : Type 0} → List A → List A → Type 0

@@ -21,14 +21,23 @@ reached (given most) tried = leb most tried
 
 -- What the run is fed: data, settings and table. E is a table entry, C a candidate.
 pub record Feed (E C : Type 0) : Type 0 where
+  -- how many passes there are
   pub passes : ℕ
+  -- how many centroids a pass, by its number, keeps
   pub kept : ℕ → ℕ
+  -- how many keys a combination of a pass has
   pub keys : ℕ → Four → ℕ
+  -- the home slot: of a pass, a combination and a key number
   pub home : ℕ → Four → ℕ → ℕ
+  -- the table's slot count
   pub slots : ℕ
+  -- the pattern count
   pub patterns : ℕ
+  -- the entry of a slot, where it is filled
   pub entry : ℕ → Option E
+  -- the candidate that an entry gives at a read, where it passes the tests
   pub test : Read → E → Option C
+  -- question 9 of an entry
   pub sound : E → Bool
 
 -- A run: its reads in order, and the status that ends it.
@@ -36,17 +45,21 @@ pub record Run : Type 0 where
   pub reads : List Read
   pub status : Status
 
+-- the run that makes no read and ends so
 unfoldable pub ended : Status → Run
 ended s = record { reads = []; status = s }
 
+-- the run that makes these reads first
 infixr 60 _before_
 unfoldable pub _before_ : List Read → Run → Run
 rs before run = record { reads = rs ++ run .reads; status = run .status }
 
+-- whether a number is 0
 unfoldable pub isZero : ℕ → Bool
 isZero zero = true
 isZero (suc n) = false
 
+-- whether an option has a value
 unfoldable pub isSome : {A : Type 0} → Option A → Bool
 isSome none = false
 isSome (some x) = true
@@ -65,6 +78,7 @@ module _ {E C : Type 0} (F : Feed E C) where
   unfoldable pub slotOf : Read → ℕ
   slotOf r = (F .home (r .pass) (r .four) (r .key) + r .probe * r .probe) % F .slots
 
+  -- whether the slot read is filled
   unfoldable pub filled : Read → Bool
   filled r = isSome (F .entry (slotOf r))
 
@@ -105,5 +119,6 @@ module _ {E C : Type 0} (F : Feed E C) where
         (passesFrom left (suc i) NoMatch tried)
         (combinations i (fours (F .kept i)) (passesFrom left (suc i) NoMatch) tried)))
 
+    -- the undivided run: all passes, in order
     unfoldable pub undivided : Run
     undivided = passesFrom (F .passes) 0 NoMatch 0

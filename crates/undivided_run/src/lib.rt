@@ -4,7 +4,7 @@ ghost use mathlib.Core.Path.{_≡_};
 ghost use Prim.Native.Nat.{_<_};
 ghost use Rattle.undivided_run.specs.Undivided.{reached};
 ghost use Rattle.undivided_run.specs.Step.{bump, settle};
-ghost use Rattle.undivided_run.specs.Moves.{firstOf, probed, keyed, fourNext};
+ghost use Rattle.undivided_run.specs.Moves.{firstOf, probed, keyed, toFour};
 use combinations::Four;
 
 // How a run ends.
@@ -68,7 +68,7 @@ impl Cap {
 
     // The first read of a combination, the cap asked before it.
     pub fn to_four(self, tried: u64, pass: u32, four: Four) -> Next
-        ensures { λ r. ⌜ r ≡ fourNext self tried pass four ⌝ }
+        ensures { λ r. ⌜ r ≡ toFour self tried pass four ⌝ }
     {
         if self.reached(tried) {
             return Next::Ends(Status::Timeout);

@@ -1,4 +1,4 @@
-use Rattle.numbers_received.specs.Received.{candidateOf}
+use Rattle.numbers_received.specs.Received.{candidateFrom}
 use borrow.Author.Needs.{needs}
 use Rattle.numbers_received.proofs.candidate_of.Statement.{statement}
 use Rattle.numbers_received.proofs.candidate_of.Tie as tie
@@ -10,7 +10,7 @@ stars-of-requires : tie.Need-stars-of-requires
 stars-of-requires c κs = search needs
 
 returns : tie.Need-returns
-unfolding candidateOf
+unfolding candidateFrom
 returns c = rw (c .before .before .places-of .ensures, c .before .stars-of .ensures)
 
 pub candidate-of-spec : {M : Type 1} → statement M

@@ -15,7 +15,7 @@ abbrev lent : tie.After-look → Data
 lent c = let b = c .before .before .before .before .before .before .before .before .before .before in dataOf (frameOf (b .args .centroids .now) (b .args .order .now) (b .args .config) (b .args .passes .now)) (b .args .slots) (b .args .words .now) (b .args .packed .now) (b .args .stars .now)
 
 -- what the look says of the read
-seen : (c : tie.After-look) → let r = c .before .before .before .before .before .before .before .before .before .before .args .p in Means (c .look .result .seen) (c .look .result .candidate) (filled (feed (lent c)) r) (soundAt (feed (lent c)) (lent c .frame .config .cap) r) (gives (feed (lent c)) r)
+seen : (c : tie.After-look) → let r = c .before .before .before .before .before .before .before .before .before .before .args .p in Means (c .look .result .seen) (c .look .result .candidate) (filled (feed (lent c)) r) (soundAt (feed (lent c)) r) (gives (feed (lent c)) r)
 seen c =
     let b = c .before .before .before .before .before .before .before .before .before .before in
     means (lent c) (b .args .p) (c .look .result)

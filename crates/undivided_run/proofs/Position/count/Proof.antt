@@ -1,8 +1,4 @@
 use Rattle.undivided_run.proofs.Steps.{bump-first, bump-key, bump-probe}
-use mathlib.Core.Path.{_≡_, refl, sym, _∙_, ap}
-use native.Mathlib.Omega.{arith}
-use Rattle.undivided_run.specs.Undivided.{starts, isZero}
-use Rattle.undivided_run.specs.Step.{bump}
 use borrow.Author.Needs.{needs}
 use Rattle.undivided_run.proofs.Position.count.Statement.{statement}
 use Rattle.undivided_run.proofs.Position.count.Tie as tie
