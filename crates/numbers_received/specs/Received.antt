@@ -1,5 +1,5 @@
 -- What is received from a host in C, in the library's own types. Definitions only.
--- Any bit pattern has its meaning: an unknown tag becomes a value that its question refuses (the claims of star_search), so that the first no still wins.
+-- Any bit pattern has its meaning: an unknown tag becomes a value that its question refuses (star_claims), so that the first no still wins.
 use Prim.Native.Nat.{ℕ}
 use mathlib.Core.Bool.{cond, not}
 use mathlib.Core.List.{List, [], _∷_}

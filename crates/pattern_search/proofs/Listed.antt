@@ -20,21 +20,23 @@ use Rattle.undivided_run.specs.declared.State.{State}
 use Rattle.undivided_run.specs.declared.Status.{Status}
 use Rattle.undivided_run.specs.declared.Next.the-variants.{Ends}
 use Rattle.undivided_run.proofs.Progress.{progress-any, used-exactly}
-use Rattle.undivided_run.specs.Undivided.{cases}
-use Rattle.undivided_run.specs.Calls.{over, calls, found}
-use Rattle.undivided_run.specs.Step.{Lent, start, look, firstRead, searchCall, refusalOf, nineOf}
+use Rattle.undivided_run.specs.declared.Position.{Position}
+use Rattle.undivided_run.specs.Undivided.{cases, gives}
+use Rattle.undivided_run.specs.Calls.{candidate, over, refused, calls, found}
+use Rattle.undivided_run.specs.Step.{Lent, start, look, firstRead, soundAt, search, searchCall, refusalOf, nineOf}
 use Rattle.undivided_run.specs.Listing.{FairList, MovesOn}
-use Rattle.undivided_run.specs.Exists.{Keyed}
+use Rattle.undivided_run.specs.Exists.{Here, Keyed}
 use Rattle.undivided_run.specs.Eight.{eightOk}
 use Rattle.undivided_run.proofs.Demand3.{KeyedList, demand3, moves-after, eight, never-nine}
-use Rattle.undivided_run.proofs.Eights.{eight-holds}
+use Rattle.undivided_run.proofs.Eights.{eight-true, eight-holds}
+use Rattle.undivided_run.proofs.Turns.{given-at}
 use Rattle.search_feed.specs.Data.{Data}
 use Rattle.search_feed.specs.Feed.{feed}
 use Rattle.search_feed.proofs.Limits.{every-four-keyed, within-limits}
 use Rattle.search_feed.proofs.Sound.{opened-sound}
 use Rattle.search_questions.specs.Questions.{firstSeven, firstNo}
 use Rattle.pattern_search.specs.Answers.{lentOf, searchedSays}
-use Rattle.pattern_search.specs.Listed.{Given, lentBy, returned, replies, lastState, answersOf, run, AllSame, Opens, EveryList, EachPart, NeverRefused, RefusedAtMostFive, ReadsASlot, ReadsOnTheRun, UsesItsAllowance}
+use Rattle.pattern_search.specs.Listed.{Given, lentBy, returned, replies, lastState, answersOf, run, AllSame, Opens, EveryList, EachPart, NeverRefused, RefusedAtMostFive, ReadsASlot, ReadsOnTheRun, CandidateRead, UsesItsAllowance}
 use Rattle.pattern_search.proofs.Saying.{says}
 use Rattle.search_questions.proofs.Asking.{seven-asked, seven-table}
 
@@ -153,6 +155,31 @@ never-refused D o s gs h g e =
     let y : eightOk (feed D) st ≡ true = rw (last-calls start gs) (eight-holds (feed D) _ _ _ z) in
     never-nine (feed D) (D .frame .config .cap) (opened-sound D o) st (lentBy g) (ap (λ X. feed X) e)
     (subst (λ X. firstNo X st ≡ none) (sym e) (clear D st s y))
+
+-- ---- the read that a candidate was given by
+eight-true-of : (D : Data) (st : State) → firstNo D st ≡ none → eightOk (feed D) st ≡ true
+unfolding firstNo cases
+eight-true-of D st h = by (firstSeven (D .frame) (D .slots) (D .words) (D .stars)) (eightOk (feed D) st) h
+  where
+    by : (o : Option ℕ) (b : Bool) → cases o (ask b (some 8) none) (λ n. some n) ≡ none → b ≡ true
+    by o true e = refl
+    by none false e = absurd (let z : _≡_ {A = ℕ} 0 1 = cc in omega arith)
+    by (some k) false e = absurd (let z : _≡_ {A = ℕ} 0 1 = cc in omega arith)
+
+pub candidate-read : CandidateRead
+unfolding lentOf searchCall cases
+candidate-read st g x h = by (firstNo (g .data-of) st) refl (sym (says (searchCall st (lentBy g))) ∙ h)
+  where
+    D : Data
+    D = g .data-of
+
+    by : (o : Option ℕ) → firstNo D st ≡ o → (cases o (search (feed D) (D .frame .config .cap) st (g .allowance)) λ k. (refused k, st)) .0 ≡ candidate x → (firstSeven (D .frame) (D .slots) (D .words) (D .stars) ≡ none) × (r : Position) × Here (feed D) r × (soundAt (feed D) r ≡ true) × (gives (feed D) r ≡ some x)
+    by none n e =
+        let s = seven-none D st n in
+        let q = seven-asked _ _ _ _ s in
+        let k = given-at (feed D) (D .frame .config .cap) (every-four-keyed D q) x (within-limits D q (seven-table _ _ _ _ s)) st (eight-true (feed D) (st .phase) (st .patterns) (st .reads) (eight-true-of D st n)) (g .allowance) e in
+        (s, k .0, k .1, k .2, k .3)
+    by (some k) n e = absurd (let z : _≡_ {A = ℕ} 0 1 = cc in omega arith)
 
 -- ---- from the opening check alone
 refused-by : (D : Data) (st : State) (a k : ℕ) → firstSeven (D .frame) (D .slots) (D .words) (D .stars) ≡ some k → refusalOf st (lentOf D a) ≡ some k

@@ -3,16 +3,19 @@ use mathlib.Core.Path.{_≡_}
 use Prim.Native.Nat.{ℕ, _+_, _≤_, _<_}
 use mathlib.Core.Logic.{_⊎_}
 use mathlib.Core.List.{List, [], _∷_, _++_, map}
+use mathlib.Core.Bool.{true}
 use mathlib.Core.Option.{none, some}
 use lib.ListN.{take, drop}
 use Rattle.candidates.specs.declared.Candidate.{Candidate}
 use Rattle.opening.specs.Opening.{opening}
 use Rattle.undivided_run.specs.declared.State.{State}
 use Rattle.undivided_run.specs.declared.Status.{Status}
+use Rattle.undivided_run.specs.declared.Position.{Position}
 use Rattle.undivided_run.specs.declared.Next.the-variants.{Ends}
 use Rattle.undivided_run.specs.Undivided.{Run, gives, undivided}
-use Rattle.undivided_run.specs.Calls.{Answer, Machine, used, over, tried, candidates, found}
-use Rattle.undivided_run.specs.Step.{Lent, start, final, look, firstRead, searchCall, refusalOf}
+use Rattle.undivided_run.specs.Calls.{Answer, Machine, candidate, used, over, tried, candidates, found}
+use Rattle.undivided_run.specs.Step.{Lent, start, final, look, firstRead, soundAt, searchCall, refusalOf}
+use Rattle.undivided_run.specs.Exists.{Here}
 use Rattle.undivided_run.specs.Listing.{Leaves, onRun as runCalls}
 use Rattle.search_feed.specs.Data.{Data}
 use Rattle.search_feed.specs.Feed.{feed}
@@ -105,6 +108,12 @@ abbrev pub ReadsOnTheRun : Type 0
 ReadsOnTheRun = (D : Data) → Opens D → (gs : List Given) → AllSame D start gs → (g : Given) → g .data-of ≡ D → refusalOf (lastState start gs) (lentBy g) ≡ none → (0 < g .allowance)
     → (lastState start gs .reads < (returned (lastState start gs) g) .state .reads)
     ⊎ ((drop (lastState start gs .reads) (run D .reads) ≡ []) × (searchedSays (returned (lastState start gs) g) ≡ over (run D .status)))
+
+-- A call that answers with a candidate passed questions 1 to 7, and a read of it, at numbers that exist and of a sound entry, gave it: `candidate-read`.
+abbrev pub CandidateRead : Type 0
+CandidateRead = (st : State) (g : Given) (x : Candidate) → searchedSays (returned st g) ≡ candidate x
+    → (firstSeven (g .data-of .frame) (g .data-of .slots) (g .data-of .words) (g .data-of .stars) ≡ none)
+    × (r : Position) × Here (feed (g .data-of)) r × (soundAt (feed (g .data-of)) r ≡ true) × (gives (feed (g .data-of)) r ≡ some x)
 
 -- "Allowance used" means exactly the allowance: `uses-its-allowance`.
 abbrev pub UsesItsAllowance : Type 0

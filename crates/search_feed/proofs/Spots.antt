@@ -2,10 +2,10 @@
 use mathlib.Core.Path.{_≡_}
 use Prim.Native.Nat.{ℕ, zero, suc, _/_, _≤_, _<_}
 use native.Mathlib.Omega.{arith}
-use mathlib.Core.Bool.{Bool, true, false, cond}
-use mathlib.Core.List.{List, [], _∷_, map}
+use mathlib.Core.Bool.{Bool, true, false, cond, _&&_}
+use mathlib.Core.List.{List, [], _∷_, _++_, map, append-nil}
 use lib.IntN.{pos}
-use lib.ListN.{length, getD, length-take}
+use lib.ListN.{length, getD, take, length-take}
 use lib.Ieee.{Float, fin, ofBits, le, lt}
 use Rattle.float_order.specs.Value.{zero32}
 use Rattle.float_order.specs.Ratios.{Ratios}
@@ -50,6 +50,39 @@ place-below F i x l =
     (all-take (λ p. p < length (F .order)) (F .config .checking) (thinned (passAt (F .passes) i .cosine) (spotOf F i) (length (F .order)))
     (thinned-below (passAt (F .passes) i .cosine) (spotOf F i) (length (F .order)) (length (F .order)) (omega arith)))
     l
+
+-- ---- .. and rise
+abbrev Up : List ℕ → Type 0
+Up [] = Unit {0}
+Up (x ∷ xs) = All (λ y. x < y) xs × Up xs
+
+up-last : (xs : List ℕ) (n : ℕ) → Up xs → All (λ p. p < n) xs → Up (xs ++ n ∷ [])
+up-last [] n u h = (tt, tt)
+up-last (x ∷ xs) n u h = (all-append (λ y. x < y) xs (n ∷ []) (u .0) (h .0, tt), up-last xs n (u .1) (h .1))
+
+up-take : (n : ℕ) (xs : List ℕ) → Up xs → Up (take n xs)
+up-take zero xs u = tt
+up-take (suc n) [] u = tt
+up-take (suc n) (x ∷ xs) u = (all-take (λ y. x < y) n xs (u .0), up-take n xs (u .1))
+
+up-at : (xs : List ℕ) (i j : ℕ) → Up xs → i < j → j < length xs → getD xs i 0 < getD xs j 0
+up-at [] i j u h l = absurd (omega arith)
+up-at (x ∷ xs) i zero u h l = absurd (omega arith)
+up-at (x ∷ xs) zero (suc j) u h l = all-at (λ y. x < y) xs 0 j (u .0) (omega arith)
+up-at (x ∷ xs) (suc i) (suc j) u h l = up-at xs i j (u .1) (omega arith) (omega arith)
+
+thinned-up : (c : Float) (spot : ℕ → List Float) (n : ℕ) → Up (thinned c spot n)
+unfolding thinned
+thinned-up c spot zero = tt
+thinned-up c spot (suc n) = by (crowded c (spot n) (map spot (thinned c spot n))) (thinned-up c spot n)
+  where
+    by : (b : Bool) → Up (thinned c spot n) → Up (thinned c spot n ++ cond b [] (n ∷ []))
+    by true u = rw append-nil u
+    by false u = up-last (thinned c spot n) n u (thinned-below c spot n n (omega arith))
+
+pub place-rises : (F : Frame) (i x y : ℕ) → x < y → y < length (keptPlaces F i) → keptPlace F i x < keptPlace F i y
+unfolding keptPlaces keptOf
+place-rises F i x y h l = up-at (keptPlaces F i) x y (up-take (F .config .checking) _ (thinned-up (passAt (F .passes) i .cosine) (spotOf F i) (length (F .order)))) h l
 
 pub kept-few : (F : Frame) (i : ℕ) → length (keptPlaces F i) ≤ F .config .checking
 unfolding keptPlaces keptOf

@@ -5,13 +5,13 @@ use native.Mathlib.Omega.{arith}
 use native.Mathlib.Numerals.{add-one}
 use mathlib.Core.List.{List, [], _∷_}
 use mathlib.Core.Bool.{Bool, true, false, cond}
-use mathlib.Core.Option.{none, some}
+use mathlib.Core.Option.{Option, none, some}
 use lib.ListN.{length}
 use Rattle.undivided_run.specs.Undivided.{Status, NoMatch, Read, Feed, Cap, cases, gives, undivided, starts}
 use Rattle.undivided_run.specs.Calls.{Answer, candidate, used, over, refused}
-use Rattle.undivided_run.specs.Step.{goes, ends, Stage, new, at, done, State, Walks, settle, bump, look, zeroCall, go, call, search, soundAt, nextRead, firstRead}
-use Rattle.undivided_run.specs.Exists.{Keyed, Within, EightAt}
-use Rattle.undivided_run.specs.Good.{Room, Good, goesOn, afterRead}
+use Rattle.undivided_run.specs.Step.{Next, goes, ends, Stage, new, at, done, State, Walks, settle, bump, look, zeroCall, go, call, search, soundAt, nextRead, firstRead}
+use Rattle.undivided_run.specs.Exists.{Here, Keyed, Within, EightAt}
+use Rattle.undivided_run.specs.Good.{HereNext, Room, Good, goesOn, afterRead}
 use Rattle.undivided_run.specs.declared.Walk.{Walk}
 use Rattle.undivided_run.proofs.Walking.{walks-undivided}
 use Rattle.undivided_run.proofs.Bounds.{reads-bound}
@@ -129,3 +129,31 @@ module _ {E C : Type 0} (F : Feed E C) (cap : Cap) (st : State) where
   unfolding search call
   search-run zero p = absurd (omega arith)
   search-run (suc a) p = refl
+
+-- ---- the read that a candidate was given by
+module _ {E C : Type 0} (F : Feed E C) (cap : Cap) (keyed : Keyed F) (x : C) where
+  abbrev pub GivenAt : Type 0
+  GivenAt = (r : Read) × Here F r × (soundAt F r ≡ true) × (gives F r ≡ some x)
+
+  given-read : (r : Read) (st k : State) (t : Answer C × State) → Here F r → (b : Bool) → soundAt F r ≡ b → (o : Option C) → gives F r ≡ o → (cond b (cases o t (λ y. (candidate y, k))) (refused 9, st)) .0 ≡ candidate x → (t .0 ≡ candidate x → GivenAt) → GivenAt
+  unfolding cases
+  given-read r st k t h false be o oe e ih = absurd (let z : _≡_ {A = ℕ} 0 1 = cc in omega arith)
+  given-read r st k t h true be none oe e ih = ih e
+  given-read r st k t h true be (some y) oe e ih = let z : y ≡ x = cc in (r, h, be, oe ∙ ap some z)
+
+  go-given : (a : ℕ) (st : State) (w : Next) (n m : ℕ) → HereNext F w → (go (gives F) (soundAt F) (nextRead F cap) st a w n m) .0 ≡ candidate x → GivenAt
+  unfolding go
+  go-given zero st (ends s) n m h e = absurd (let z : _≡_ {A = ℕ} 0 1 = cc in omega arith)
+  go-given zero st (goes r) n m h e = absurd (let z : _≡_ {A = ℕ} 0 1 = cc in omega arith)
+  go-given (suc a) st (ends s) n m h e = absurd (let z : _≡_ {A = ℕ} 0 1 = cc in omega arith)
+  go-given (suc a) st (goes r) n m h e = given-read r st _ _ h (soundAt F r) refl (gives F r) refl e (go-given a st (nextRead F cap r (bump r n)) (bump r n) (suc m) (next-here F cap keyed r (bump r n) h))
+
+  -- a call that question 8 lets through and that answers with a candidate read it at numbers that exist, from a sound entry
+  pub given-at : Within F → (st : State) → EightAt F (st .phase) (st .patterns) (st .reads) → (a : ℕ) → (search F cap st a) .0 ≡ candidate x → GivenAt
+  unfolding search call zeroCall
+  given-at w st q zero e = by (look (firstRead F cap) (st .phase)) e
+    where
+      by : (v : Next) → (zeroCall {C = C} st v) .0 ≡ candidate x → GivenAt
+      by (ends s) e = absurd (let z : _≡_ {A = ℕ} 0 1 = cc in omega arith)
+      by (goes r) e = absurd (let z : _≡_ {A = ℕ} 0 1 = cc in omega arith)
+  given-at w st q (suc a) e = go-given (suc a) st (look (firstRead F cap) (st .phase)) (st .patterns) (st .reads) (begun-good F cap keyed w st q .here) e

@@ -1,7 +1,7 @@
 -- What a host may rely on beside the contracts, as statements; proofs/ has a proof of each under the name given beside it. Definitions only.
 use mathlib.Core.Path.{_≡_}
 use Prim.Native.Nat.{ℕ, _<_}
-use mathlib.Core.Bool.{false}
+use mathlib.Core.Bool.{true, false}
 use mathlib.Core.Logic.{_⊎_, _↔_}
 use mathlib.Core.List.{List}
 use mathlib.Core.Option.{none}
@@ -10,15 +10,22 @@ use lib.Ieee.{Float}
 use Rattle.candidates.specs.declared.Candidate.{Candidate}
 use Rattle.undivided_run.specs.declared.State.{State}
 use Rattle.undivided_run.specs.Eight.{eightOk}
+use Rattle.undivided_run.specs.Calls.{candidate}
 use Rattle.undivided_run.specs.Step.{start}
 use Rattle.search_feed.specs.Data.{Data, settingsOk}
 use Rattle.search_feed.specs.Feed.{feed}
+use Rattle.passes.specs.Passes.{scaleFits}
+use Rattle.pattern_search.specs.Answers.{searchedSays}
+use Rattle.pattern_search.specs.Listed.{Given, returned}
+use Rattle.complete.specs.declared.Completion.{Completion}
+use Rattle.complete.specs.Completing.{completedOf}
 use Rattle.pattern_catalog.specs.Answers.{Answer}
 use Rattle.pattern_catalog.specs.SlotRead.{sectionPart}
 use Rattle.opening.specs.Opening.{opening}
 use Rattle.fov_sweep.specs.Sweep.{sweepFits}
 use Rattle.numbers_received.specs.Received.{optionOf, configOf, stateOf, candidateFrom}
-use Rattle.numbers_handed.specs.Handed.{openedNumber, plainNumbers, stateNumbers, candidateNumbers, partNumbers}
+use Rattle.numbers_handed.specs.Handed.{openedNumber, plainNumbers, stateNumbers, candidateNumbers, partNumbers, completedNumbers}
+use Rattle.star_search.specs.Calls.{Call, answered}
 use Rattle.star_numbers.specs.declared.StarSettings.{StarSettings}
 use Rattle.star_numbers.specs.declared.StarState.{StarState}
 
@@ -53,3 +60,13 @@ UnknownState = (D : Data) (s : StarState) → (2 < s .phase) ⊎ ((s .phase ≡ 
 -- Offset and length are the part that the slot read hands back: `part-as-numbers`.
 abbrev pub PartAsNumbers : Type 0
 PartAsNumbers = (packed : List ℕ) (a : Answer) → take (partNumbers a .length) (drop (partNumbers a .offset) packed) ≡ sectionPart packed a
+
+-- A candidate that a search gave is completed with the same frame and stars and any scale above 0 and at most 16: `completable`.
+abbrev pub Completable : Type 0
+Completable = (st : State) (g : Given) (x : Candidate) (scale : Float) → searchedSays (returned st g) ≡ candidate x → scaleFits scale ≡ true
+    → completedOf (g .data-of .frame .centroids) (g .data-of .frame .order) (g .data-of .frame .passes) (g .data-of .stars) x scale .answer ≡ Completion.Done
+
+-- .. and so through C: `completable-through-c`.
+abbrev pub CompletableThroughC : Type 0
+CompletableThroughC = (raw : StarState) (g : Call) (scale : Float) → (answered raw g) .answer ≡ 0 → scaleFits scale ≡ true
+    → completedNumbers (completedOf (g .centroids) (g .order) (g .passes) (g .stars) (candidateFrom ((answered raw g) .candidate)) scale) .answer ≡ 0

@@ -30,7 +30,7 @@ use Rattle.star_directions.specs.Directions.{noStar}
 use Rattle.candidate_questions.specs.Questions.{noPlace}
 use Rattle.numbers_received.specs.Received.{optionOf, binsOf, configOf, positionOf, unknown, endedOf, stateOf, candidateFrom}
 use Rattle.numbers_handed.specs.Handed.{openedNumber, phaseNumbers, flagNumber}
-use Rattle.star_search.specs.Claims.{ZeroPasses, StateBack, CandidateBack, ZeroIsFresh, UnknownSettings, UnknownError, UnknownState, PartAsNumbers}
+use Rattle.star_claims.specs.Claims.{ZeroPasses, StateBack, CandidateBack, ZeroIsFresh, UnknownSettings, UnknownError, UnknownState, PartAsNumbers}
 
 -- ---- the opening check
 zero-none : (a b c d : Bool) → let o : Option ℕ = ask a (some 6) (ask b (some 7) (ask c (some 10) (ask d (some 9) none))) in openedNumber o ≡ 0 → o ≡ none

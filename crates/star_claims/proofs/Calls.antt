@@ -19,10 +19,11 @@ use Rattle.pattern_search.specs.Listed.{lentBy, returned, answersOf, replies, l
 use Rattle.pattern_search.proofs.Listed.{listed}
 use Rattle.numbers_received.specs.Received.{unknown, stateOf}
 use Rattle.numbers_handed.specs.Handed.{plainNumbers, candidateNumbers, answerOf}
-use Rattle.star_search.specs.Calls.{Call, givenBy, answered, answers, lastRaw, saidBy, numbersOf, foundIn, phaseOn, SameCalls, ListedThroughC, ListedFromZero}
+use Rattle.star_search.specs.Calls.{Call, givenBy, answered}
+use Rattle.star_claims.specs.Calls.{answers, lastRaw, saidBy, numbersOf, foundIn, phaseOn, SameCalls, ListedThroughC, ListedFromZero}
 use Rattle.star_numbers.specs.declared.StarState.{StarState}
-use Rattle.star_search.proofs.Tags.{state-back, zero-is-fresh}
-use Rattle.star_search.proofs.Shown.{stageNumber, shows}
+use Rattle.star_claims.proofs.Tags.{state-back, zero-is-fresh}
+use Rattle.star_claims.proofs.Shown.{stageNumber, shows}
 
 -- ---- one call
 said-alike : (raw : StarState) (t : Answer Candidate × State) → saidBy (answerOf raw (searched t)) ≡ numbersOf (searchedSays (searched t))

@@ -1,0 +1,4 @@
+pub mod Tags
+pub mod Shown
+pub mod Calls
+pub mod Completing
