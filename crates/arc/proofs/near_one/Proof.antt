@@ -1,5 +1,7 @@
-use lib.Ieee.{nanBits, ofBits}
-use Rattle.arc.specs.Arc.{nearOne}
+use mathlib.Core.Path.{ap₂}
+use lib.Ieee.{Float, nanBits, binary32, ofBits, add, sub, mul}
+use Rattle.float_order.specs.Value.{two32}
+use Rattle.arc.specs.Arc.{quarterTurn, nearOne}
 use borrow.Author.Needs.{needs}
 use Rattle.arc.proofs.near_one.Statement.{statement}
 use Rattle.arc.proofs.near_one.Tie as tie
@@ -16,7 +18,7 @@ bend-requires c κs = search needs
 
 returns : tie.Need-returns
 unfolding nearOne ofBits
-returns c = cc
+returns c = ap₂ (λ (s b : Float). sub binary32 quarterTurn (mul binary32 two32 (add binary32 s (mul binary32 s b)))) (c .before .sqrt .ensures) (c .bend .ensures)
 
 pub near-one-spec : {M : Type 1} → statement M
 near-one-spec = tie.close (tie.spec sqrt-requires float-from-bits-result bend-requires returns)

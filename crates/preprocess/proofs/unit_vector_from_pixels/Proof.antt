@@ -1,5 +1,8 @@
 -- `preprocess::unit_vector_from_pixels` meets its contract. Assumes nothing.
-use lib.Ieee.{ofBits}
+use mathlib.Core.Path.{ap}
+use mathlib.Core.List.{[], _∷_}
+use lib.Ieee.{Float, binary32, ofBits, mul, div}
+use Rattle.float_order.specs.Value.{one32}
 use Rattle.preprocess.specs.Vectors.{unitOf, overNorm, normOf}
 use borrow.Author.Needs.{needs}
 use Rattle.preprocess.proofs.unit_vector_from_pixels.Statement.{statement}
@@ -10,7 +13,9 @@ sqrt-requires c κs = search needs
 
 returns : tie.Need-returns
 unfolding unitOf overNorm normOf ofBits
-returns c = cc
+returns c =
+    let a = c .before .args in
+    ap (λ (n : Float). div binary32 (mul binary32 (a .x) (a .scale)) n ∷ div binary32 (mul binary32 (a .y) (a .scale)) n ∷ div binary32 one32 n ∷ []) (c .sqrt .ensures)
 
 pub unit-vector-from-pixels-spec : {M : Type 1} → statement M
 unit-vector-from-pixels-spec = tie.close (tie.spec sqrt-requires returns)
