@@ -55,13 +55,13 @@ module _ (stars : List Float) (mark : ℕ) (e : List ℕ) (m : ℕ) (me : m ≡ 
 
 -- ---- the stars asked as reads allow
 module _ (n made : ℕ) where
-  pub allowed-part : made < n / 32 → made * 32 ≡ allowedStars n made
+  pub allowed-part : made < n / 64 → made * 64 ≡ allowedStars n made
   unfolding allowedStars
-  allowed-part l = sym (rw (lt-ltb made (n / 32) l))
+  allowed-part l = sym (rw (lt-ltb made (n / 64) l))
 
-  pub allowed-whole : n / 32 ≤ made → n ≡ allowedStars n made
+  pub allowed-whole : n / 64 ≤ made → n ≡ allowedStars n made
   unfolding allowedStars
-  allowed-whole l = sym (rw (le-ltb made (n / 32) l))
+  allowed-whole l = sym (rw (le-ltb made (n / 64) l))
 
 module _ (stars : List Float) (k : Known) (made : ℕ) where
   pub stars-known : k .asked ≡ true → k ≡ askedStars stars k made
@@ -117,10 +117,10 @@ learnt-below stars a b l s i h = by (everyStar (starsFrom stars a b)) refl h
 
 pub allowed-below : (n made : ℕ) → allowedStars n made ≤ n
 unfolding allowedStars
-allowed-below n made = by (ltb made (n / 32)) refl
+allowed-below n made = by (ltb made (n / 64)) refl
   where
-    by : (b : Bool) → ltb made (n / 32) ≡ b → cond b (made * 32) n ≤ n
-    by true e = let l = ltb-true made (n / 32) e in omega arith
+    by : (b : Bool) → ltb made (n / 64) ≡ b → cond b (made * 64) n ≤ n
+    by true e = let l = ltb-true made (n / 64) e in omega arith
     by false e = omega arith
 
 -- what is known of the stars stays true

@@ -19,9 +19,9 @@ use Rattle.chains.specs.declared.Glance.the-variants.{Empty, Passed, Sto
 abbrev pub SoundBelow : List Float → ℕ → Type 0
 SoundBelow stars n = (i : ℕ) → i < n → starSound stars i ≡ true
 
--- how many of n stars a call that has made so many reads may have asked: 32 for each read
+-- how many of n stars a call that has made so many reads may have asked: 64 for each read
 unfoldable pub allowedStars : ℕ → ℕ → ℕ
-allowedStars n made = cond (ltb made (n / 32)) (made * 32) n
+allowedStars n made = cond (ltb made (n / 64)) (made * 64) n
 
 -- the stars from a on, up to b
 abbrev pub starsFrom : List Float → ℕ → ℕ → List Float

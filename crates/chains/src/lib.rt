@@ -37,13 +37,13 @@ pub struct Known {
     pub sound: u32,
 }
 
-// How many of n stars a call may have asked once it has made so many reads: 32 for each, which takes about half as long as the read.
+// How many of n stars a call may have asked once it has made so many reads: 64 for each, which takes about half as long as the read.
 fn reach(n: usize, made: u64) -> usize
     requires { ⌜ n ≤ 1048576 ⌝ }
     ensures { λ r. ⌜ (r ≡ allowedStars n made) × (r ≤ n) ⌝ }
 {
-    if made < (n / 32) as u64 {
-        return made as usize * 32;
+    if made < (n / 64) as u64 {
+        return made as usize * 64;
     }
     n
 }
