@@ -7,6 +7,8 @@ use crate::recorded::tell_stream;
 use telling::table_line;
 use telling::tell_search;
 use telling::text;
+use undivided_run::Phase;
+use undivided_run::State;
 
 // One bundled frame.
 fn tell_bundled(name: &[u8], coords: &[f32], places: &[u32]) {
@@ -15,6 +17,11 @@ fn tell_bundled(name: &[u8], coords: &[f32], places: &[u32]) {
     let stars = bundled::STARS;
     let triples = bundled::PASSES;
     text(name);
+    let fresh = State {
+        phase: Phase::Fresh,
+        patterns: 0,
+        reads: 0,
+    };
     tell_search(
         bundled::config(),
         bundled::SLOTS,
@@ -24,7 +31,7 @@ fn tell_bundled(name: &[u8], coords: &[f32], places: &[u32]) {
         coords,
         places,
         &triples,
-        stream::fresh(),
+        fresh,
     );
 }
 

@@ -1,12 +1,12 @@
 // The records of a stream, each search in it told.
-use stream::Desk;
-use stream::Record;
-use stream::Request;
-use stream::with_state;
+use stream::Coming;
 use stream_parts::first_bytes;
 use stream_parts::first_floats;
 use stream_parts::first_longs;
 use stream_parts::first_words;
+use stream_records::Desk;
+use stream_records::Record;
+use stream_records::Request;
 use telling::number;
 use telling::table_line;
 use telling::tell_call;
@@ -127,25 +127,23 @@ fn tell(
             broken_line(n);
             more = false;
         }
-        Request::End => {
-            more = false;
-        }
         _ => {}
     }
-    let after = with_state(desk, left);
+    let mut after = desk;
+    after.state = left;
     Told { more, desk: after }
 }
 
-// What record number n asks for, told over as much of the lent slices as the desk says is taken.
+// What record number n asks for, told over as much of the lent arrays as the desk says is taken.
 fn tell_lent(
     n: u64,
     record: Record,
-    table: &[u64],
-    packed: &[u8],
-    stars: &[f32],
-    coords: &[f32],
-    places: &[u32],
-    triples: &[f32],
+    table: &[u64; 2560],
+    packed: &[u8; 1500000],
+    stars: &[f32; 200000],
+    coords: &[f32; 640],
+    places: &[u32; 320],
+    triples: &[f32; 900],
 ) -> Told {
     let request = record.request;
     let desk = record.desk;
@@ -167,40 +165,57 @@ fn next_told(
     fd: i32,
     n: u64,
     desk: Desk,
-    table: &mut [u64],
-    packed: &mut [u8],
-    stars: &mut [f32],
-    coords: &mut [f32],
-    places: &mut [u32],
-    triples: &mut [f32],
+    table: &mut [u64; 2560],
+    packed: &mut [u8; 1500000],
+    stars: &mut [f32; 200000],
+    coords: &mut [f32; 640],
+    places: &mut [u32; 320],
+    triples: &mut [f32; 900],
 ) -> Told {
-    let r = stream::next_record(fd, desk, table, packed, stars, coords, places, triples);
-    tell_lent(
-        n,
-        r,
-        &*table,
-        &*packed,
-        &*stars,
-        &*coords,
-        &*places,
-        &*triples,
-    )
+    match stream::next_record(fd, table, packed, stars, coords, places, triples) {
+        Coming::End => Told { more: false, desk },
+        Coming::Broken => {
+            broken_line(n);
+            Told { more: false, desk }
+        }
+        Coming::Record(kind, w) => {
+            let record = stream_records::record_of(kind, w, desk);
+            tell_lent(
+                n,
+                record,
+                &*table,
+                &*packed,
+                &*stars,
+                &*coords,
+                &*places,
+                &*triples,
+            )
+        }
+    }
 }
 
-// Record after record. A stream has fewer than 2^64 of them.
-fn tell_records(
-    fd: i32,
-    table: &mut [u64],
-    packed: &mut [u8],
-    stars: &mut [f32],
-    coords: &mut [f32],
-    places: &mut [u32],
-    triples: &mut [f32],
-) {
-    let mut desk = stream::start();
+// The stream that a descriptor gives, record after record. It has fewer than 2^64 of them.
+pub fn tell_stream(fd: i32) {
+    let mut table = [0u64; 2560];
+    let mut packed = stream_parts::no_bytes();
+    let mut stars = stream_parts::no_stars();
+    let mut coords = [0.0f32; 640];
+    let mut places = [0u32; 320];
+    let mut triples = [0.0f32; 900];
+    let mut desk = stream_records::start();
     let mut n: u64 = 0;
     while n < u64::MAX {
-        let t = next_told(fd, n, desk, table, packed, stars, coords, places, triples);
+        let t = next_told(
+            fd,
+            n,
+            desk,
+            &mut table,
+            &mut packed,
+            &mut stars,
+            &mut coords,
+            &mut places,
+            &mut triples,
+        );
         if !t.more {
             return;
         }
@@ -208,23 +223,4 @@ fn tell_records(
         desk = d;
         n += 1;
     }
-}
-
-// The stream that a descriptor gives.
-pub fn tell_stream(fd: i32) {
-    let mut table = stream_parts::no_longs();
-    let mut packed = stream_parts::no_bytes();
-    let mut stars = stream_parts::no_stars();
-    let mut coords = stream_parts::no_coords();
-    let mut places = stream_parts::no_places();
-    let mut triples = stream_parts::no_triples();
-    tell_records(
-        fd,
-        &mut table,
-        &mut packed,
-        &mut stars,
-        &mut coords,
-        &mut places,
-        &mut triples,
-    );
 }

@@ -8,9 +8,9 @@ use crate::lines::sweep_line;
 use brightness_list::Place;
 use candidates::Candidate;
 use star_slice::StarIndex;
-use stream::Desk;
-use stream::option;
-use stream::with_state;
+use stream_records::Desk;
+use stream_records::option;
+use stream_words::Words;
 
 // Whether a run goes on after a call, and the desk after it.
 struct Called {
@@ -45,7 +45,8 @@ fn call(
     );
     let left = searched.state;
     let more = call_line(searched);
-    let after = with_state(desk, left);
+    let mut after = desk;
+    after.state = left;
     Called { more, desk: after }
 }
 
@@ -119,21 +120,21 @@ pub fn slot_record(slots: u64, table: &[u64], packed: &[u8], slot: u64) {
 }
 
 // A sweep into the first `room` of a lent slice, and its line; whether the slice has that room.
-fn sweep_in(w: [u32; 13], out: &mut [f32]) -> bool {
-    let room = w[4] as usize;
+fn sweep_in(w: Words, out: &mut [f32]) -> bool {
+    let room = w.w4 as usize;
     if room > out.len() {
         return false;
     }
-    let estimate = float::from_bits(w[0]);
-    let error = option(w[1], w[2]);
-    let step = float::from_bits(w[3]);
+    let estimate = float::from_bits(w.w0);
+    let error = option(w.w1, w.w2);
+    let step = float::from_bits(w.w3);
     let swept = fov_sweep::build_fov_sweep(estimate, error, step, &mut out[0..room]);
     sweep_line(swept, &*out);
     true
 }
 
 // The sweep of record number n and its line; beyond 1,024 values the record can't be read.
-pub fn sweep_record(n: u64, w: [u32; 13]) -> bool {
+pub fn sweep_record(n: u64, w: Words) -> bool {
     let mut out = [0.0f32; 1024];
     let ok = sweep_in(w, &mut out);
     if !ok {
@@ -143,35 +144,29 @@ pub fn sweep_record(n: u64, w: [u32; 13]) -> bool {
 }
 
 // The candidate of a payload.
-fn candidate_of(w: [u32; 13]) -> Candidate {
-    let places = [Place(w[1]), Place(w[2]), Place(w[3]), Place(w[4])];
+fn candidate_of(w: Words) -> Candidate {
+    let places = [Place(w.w1), Place(w.w2), Place(w.w3), Place(w.w4)];
     let stars = [
-        StarIndex(w[5]),
-        StarIndex(w[6]),
-        StarIndex(w[7]),
-        StarIndex(w[8]),
+        StarIndex(w.w5),
+        StarIndex(w.w6),
+        StarIndex(w.w7),
+        StarIndex(w.w8),
     ];
-    let field = float::from_bits(w[9]);
+    let field = float::from_bits(w.w9);
     Candidate {
-        pass: w[0],
+        pass: w.w0,
         places,
         slot: 0,
         stars,
         field,
-        rebuild: w[10] != 0,
+        rebuild: w.w10 != 0,
     }
 }
 
 // A completing and its line.
-pub fn complete_record(
-    w: [u32; 13],
-    stars: &[f32],
-    coords: &[f32],
-    places: &[u32],
-    triples: &[f32],
-) {
+pub fn complete_record(w: Words, stars: &[f32], coords: &[f32], places: &[u32], triples: &[f32]) {
     let told = candidate_of(w);
-    let scale = float::from_bits(w[11]);
+    let scale = float::from_bits(w.w11);
     let completed = complete::complete(coords, places, triples, stars, told, scale);
     complete_line(completed);
 }

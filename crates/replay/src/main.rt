@@ -11,13 +11,15 @@ use crate::answering::slot_record;
 use crate::answering::sweep_record;
 use crate::lines::stream_line;
 use libc::STDIN_FILENO;
-use stream::Desk;
-use stream::Record;
-use stream::Request;
+use stream::Coming;
 use stream_parts::first_bytes;
 use stream_parts::first_floats;
 use stream_parts::first_longs;
 use stream_parts::first_words;
+use stream_records::Desk;
+use stream_records::Record;
+use stream_records::Request;
+use stream_words::Words;
 
 // Whether the stream goes on after a record, and the desk after it.
 struct Answered {
@@ -29,7 +31,7 @@ struct Answered {
 fn answer(
     n: u64,
     request: Request,
-    w: [u32; 13],
+    w: Words,
     desk: Desk,
     table: &[u64],
     packed: &[u8],
@@ -59,24 +61,21 @@ fn answer(
             stream_line(n);
             more = false;
         }
-        Request::End => {
-            more = false;
-        }
         Request::Nothing => {}
     }
     Answered { more, desk: after }
 }
 
-// What record number n asks for, answered over as much of the lent slices as the desk says is taken.
+// What record number n asks for, answered over as much of the lent arrays as the desk says is taken.
 fn answer_lent(
     n: u64,
     record: Record,
-    table: &[u64],
-    packed: &[u8],
-    stars: &[f32],
-    coords: &[f32],
-    places: &[u32],
-    triples: &[f32],
+    table: &[u64; 2560],
+    packed: &[u8; 1500000],
+    stars: &[f32; 200000],
+    coords: &[f32; 640],
+    places: &[u32; 320],
+    triples: &[f32; 900],
 ) -> Answered {
     let request = record.request;
     let w = record.words;
@@ -99,48 +98,56 @@ fn answer_lent(
 fn next_answer(
     n: u64,
     desk: Desk,
-    table: &mut [u64],
-    packed: &mut [u8],
-    stars: &mut [f32],
-    coords: &mut [f32],
-    places: &mut [u32],
-    triples: &mut [f32],
+    table: &mut [u64; 2560],
+    packed: &mut [u8; 1500000],
+    stars: &mut [f32; 200000],
+    coords: &mut [f32; 640],
+    places: &mut [u32; 320],
+    triples: &mut [f32; 900],
 ) -> Answered {
-    let r = stream::next_record(
-        STDIN_FILENO,
-        desk,
-        table,
-        packed,
-        stars,
-        coords,
-        places,
-        triples,
-    );
-    answer_lent(
-        n,
-        r,
-        &*table,
-        &*packed,
-        &*stars,
-        &*coords,
-        &*places,
-        &*triples,
-    )
+    match stream::next_record(STDIN_FILENO, table, packed, stars, coords, places, triples) {
+        Coming::End => Answered { more: false, desk },
+        Coming::Broken => {
+            stream_line(n);
+            Answered { more: false, desk }
+        }
+        Coming::Record(kind, w) => {
+            let record = stream_records::record_of(kind, w, desk);
+            answer_lent(
+                n,
+                record,
+                &*table,
+                &*packed,
+                &*stars,
+                &*coords,
+                &*places,
+                &*triples,
+            )
+        }
+    }
 }
 
 // Record after record. A stream has fewer than 2^64 of them.
-fn replay(
-    table: &mut [u64],
-    packed: &mut [u8],
-    stars: &mut [f32],
-    coords: &mut [f32],
-    places: &mut [u32],
-    triples: &mut [f32],
-) {
-    let mut desk = stream::start();
+fn main() {
+    let mut table = [0u64; 2560];
+    let mut packed = stream_parts::no_bytes();
+    let mut stars = stream_parts::no_stars();
+    let mut coords = [0.0f32; 640];
+    let mut places = [0u32; 320];
+    let mut triples = [0.0f32; 900];
+    let mut desk = stream_records::start();
     let mut n: u64 = 0;
     while n < u64::MAX {
-        let t = next_answer(n, desk, table, packed, stars, coords, places, triples);
+        let t = next_answer(
+            n,
+            desk,
+            &mut table,
+            &mut packed,
+            &mut stars,
+            &mut coords,
+            &mut places,
+            &mut triples,
+        );
         if !t.more {
             return;
         }
@@ -148,21 +155,4 @@ fn replay(
         desk = d;
         n += 1;
     }
-}
-
-fn main() {
-    let mut table = stream_parts::no_longs();
-    let mut packed = stream_parts::no_bytes();
-    let mut stars = stream_parts::no_stars();
-    let mut coords = stream_parts::no_coords();
-    let mut places = stream_parts::no_places();
-    let mut triples = stream_parts::no_triples();
-    replay(
-        &mut table,
-        &mut packed,
-        &mut stars,
-        &mut coords,
-        &mut places,
-        &mut triples,
-    );
 }

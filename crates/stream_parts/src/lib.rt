@@ -7,8 +7,4 @@ pub use crate::parts::first_floats;
 pub use crate::parts::first_longs;
 pub use crate::parts::first_words;
 pub use crate::room::no_bytes;
-pub use crate::room::no_coords;
-pub use crate::room::no_longs;
-pub use crate::room::no_places;
 pub use crate::room::no_stars;
-pub use crate::room::no_triples;

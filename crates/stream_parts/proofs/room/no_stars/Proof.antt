@@ -1,11 +1,13 @@
-use mathlib.Core.Path.{sym}
 use lib.Ieee.{binary32, ofBits}
+use mathlib.Core.Path.{refl, sym}
 use lib.ListN.{length-replicate}
+use Rattle.stream_parts.specs.Lent.{room}
 use Rattle.stream_parts.proofs.room.no_stars.Statement.{statement}
 use Rattle.stream_parts.proofs.room.no_stars.Tie as tie
 
 returns : tie.Need-returns
-returns c = sym (length-replicate 200000 (ofBits binary32 0))
+unfolding room
+returns c = (sym (length-replicate 200000 (ofBits binary32 0)), refl)
 
 pub no-stars-spec : {M : Type 1} → statement M
 no-stars-spec = tie.close (tie.spec returns)
