@@ -1,6 +1,6 @@
 // Numbers off a stream, little-endian. Each says whether the stream still had it; `fd` is the descriptor that it is read from.
-use stream_words::long_of;
 use stream_words::Words;
+use stream_words::long_of;
 
 // A u32, where the stream still has its four bytes.
 struct Word {
