@@ -1,6 +1,6 @@
 -- Directions and angles in the array, as it is laid, cleared and asked. Assumes nothing.
 use mathlib.Core.Path.{_≡_, refl, sym, ap, ap₂, _∙_, subst}
-use Prim.Native.Nat.{ℕ, _+_, _*_, _≤_, _<_}
+use Prim.Native.Nat.{ℕ, suc, _+_, _*_, _≤_, _<_}
 use native.Mathlib.Omega.{arith}
 use mathlib.Core.Bool.{Bool, true, false}
 use mathlib.Core.List.{List, []}
@@ -10,9 +10,12 @@ use lib.ListN.{length, getD, set, length-set}
 use lib.Seq.{getD-set-same, getD-set-other}
 use lib.Ieee.{Float, nan, fin, lt}
 use Rattle.float_order.proofs.Order.{lt-or-le}
-use Rattle.pattern.specs.Edges.{angle}
-use Rattle.pattern.proofs.Same.{same-three}
-use Rattle.kept_angles.specs.Measures.{rowAt, threeOf, directionAt, unset, angleIn, AnglesHeld, Still}
+use Rattle.float_order.specs.Value.{zero32}
+use Rattle.combinations.specs.Fours.{Rising}
+use Rattle.combinations.specs.declared.Four.{Four}
+use Rattle.pattern.specs.Edges.{angle, angles}
+use Rattle.pattern.proofs.Same.{same-three, same-six}
+use Rattle.kept_angles.specs.Measures.{rowAt, threeOf, directionAt, unset, angleIn, sixIn, AnglesHeld, fourAt, Still}
 use Rattle.kept_angles.proofs.Places.{row-after, place-inside, same-place}
 
 -- a store behind a direction leaves it
@@ -42,6 +45,25 @@ known-right n m i j h l p f = elim (h .each i j l p) [
   | inl e ↦ absurd (let z : _≡_ {A = Bool} true false = sym (unset-below (angleIn m i j) e) ∙ f in let y : _≡_ {A = ℕ} 0 1 = cc in omega arith)
   | inr e ↦ e
 ]
+
+-- six angles that are not below 0 are worked out
+pub six-right : (m : List Float) (q : Four) → Rising 64 q → AnglesHeld (suc (q .d)) m → (v : List Float) → v ≡ sixIn m q → ((k : ℕ) → k < 6 → lt (getD v k nan) zero32 ≡ false) → v ≡ angles (fourAt m q)
+unfolding angles
+six-right m q r h v e above =
+    e
+    ∙ same-six
+    (right (q .a) (q .b) (omega (arith, r .ab)) (omega (arith, r .bc, r .cd)) (not-below 0 (omega arith)))
+    (right (q .a) (q .c) (omega (arith, r .ab, r .bc)) (omega (arith, r .cd)) (not-below 1 (omega arith)))
+    (right (q .a) (q .d) (omega (arith, r .ab, r .bc, r .cd)) (omega arith) (not-below 2 (omega arith)))
+    (right (q .b) (q .c) (omega (arith, r .bc)) (omega (arith, r .cd)) (not-below 3 (omega arith)))
+    (right (q .b) (q .d) (omega (arith, r .bc, r .cd)) (omega arith) (not-below 4 (omega arith)))
+    (right (q .c) (q .d) (omega (arith, r .cd)) (omega arith) (not-below 5 (omega arith)))
+  where
+    right : (i j : ℕ) → i < j → j < suc (q .d) → lt (angleIn m i j) zero32 ≡ false → angleIn m i j ≡ angle (directionAt m i) (directionAt m j)
+    right i j = known-right (suc (q .d)) m i j h
+
+    not-below : (k : ℕ) → k < 6 → lt (getD (sixIn m q) k nan) zero32 ≡ false
+    not-below k l = ap (λ (w : List Float). lt (getD w k nan) zero32) (sym e) ∙ above k l
 
 pub still-same : (m : List Float) → length m ≡ 2208 → Still m m
 still-same m l = record { directions = λ k p. refl; held = λ n h. h; long = l }

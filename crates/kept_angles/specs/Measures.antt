@@ -35,6 +35,10 @@ unset = fin true 1 (pos 0)
 abbrev pub angleIn : List Float → ℕ → ℕ → Float
 angleIn m i j = getD m (rowAt j + i) nan
 
+-- what stands for the six pairs of four positions, in the source's order
+abbrev pub sixIn : List Float → Four → List Float
+sixIn m q = angleIn m (q .a) (q .b) ∷ angleIn m (q .a) (q .c) ∷ angleIn m (q .a) (q .d) ∷ angleIn m (q .b) (q .c) ∷ angleIn m (q .b) (q .d) ∷ angleIn m (q .c) (q .d) ∷ []
+
 -- each angle of the first n positions is unset or that of its two directions
 pub record AnglesHeld (n : ℕ) (m : List Float) : Type 0 where
   pub few : n ≤ 64

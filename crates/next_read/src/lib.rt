@@ -82,16 +82,7 @@ pub fn to_pass(
                 held: desk,
             };
         }
-        let laid = search_desk::lay_pass(
-            centroids,
-            order,
-            config,
-            passes,
-            desk,
-            i,
-            places,
-            measures,
-        );
+        let laid = search_desk::lay_anew(centroids, order, config, passes, i, places, measures);
         desk = laid;
         match begin_pass(laid.kept, slots, config.patterns) {
             Begin::First(q) => {

@@ -23,7 +23,7 @@ use Rattle.chains.specs.declared.Glance.the-variants.{Empty}
 use Rattle.chains.specs.declared.Along.{Along}
 use Rattle.quiet_reads.specs.declared.Stand.{Stand}
 use Rattle.chains.proofs.Ways.{way-empty, way-used}
-use Rattle.quiet_reads.proofs.Stands.{stand-stop, stand-next}
+use Rattle.quiet_reads.proofs.Stands.{stand-stop, stand-last, stand-next}
 
 -- ---- the keys looked for
 -- a write at m leaves the searches up to m where they begin
@@ -145,6 +145,21 @@ ahead-looked words slots hashes lo i m keys homes A room v ve false be =
     let n : m ≡ m + 0 = omega arith in
     subst (λ (x : ℕ). Ahead words slots hashes lo x (m + 0) (set keys m (lo + i)) (set homes m v)) e (subst (λ (x : ℕ). Ahead words slots hashes lo (lo + i + 1) x (set keys m (lo + i)) (set homes m v)) n (ahead-empty words slots hashes lo (lo + i) m keys homes A room v ve (sym be)))
 
+-- ---- where the keys looked at end
+pub some-keys : (k keys n : ℕ) → n ≡ keys - k - (keys - k - 16) → k < keys → k < k + n
+some-keys k keys n e h = omega arith
+
+-- no further than the last key
+module _ (to keys end : ℕ) (e : end ≡ to - (to - (keys - 1))) where
+  pub up-to : (at : ℕ) → at ≤ to → at < keys → at ≤ end
+  up-to at a b = omega arith
+
+  pub to-end : to < keys → end ≡ to
+  to-end h = omega arith
+
+  pub to-last : keys ≤ to → 0 < keys → end + 1 ≡ keys
+  to-last h k = omega arith
+
 -- ---- the keys between them
 module _ (words packed : List ℕ) (stars : List Float) (slots : ℕ) (hashes : List ℕ) (keys : ℕ) (some : 0 < slots) where
   abbrev from : ℕ → ℕ → ℕ → ℕ → Stand
@@ -156,12 +171,14 @@ module _ (words packed : List ℕ) (stars : List Float) (slots : ℕ) (hashes : 
       let s : (homeAt slots hashes k + 0 * 0) % slots ≡ homeAt slots hashes k = ap (λ (x : ℕ). x % slots) (let z : homeAt slots hashes k + 0 * 0 ≡ homeAt slots hashes k = omega arith in z) ∙ mod-eq-of-lt (home-below (getD hashes k 0) slots some) in
       rw (s, f)
 
-  one : (k a : ℕ) → filled words (homeAt slots hashes k) ≡ false → k + 1 < keys → from (keys - (k + 1 + 1)) (k + 1) 0 a ≡ from (keys - (k + 1)) k 0 (suc a)
-  one k a f h =
+  -- the chain of a key with an empty home slot is one read
+  one-read : (k a : ℕ) → filled words (homeAt slots hashes k) ≡ false → record { over = true; probe = 0; left = a } ≡ alongKey words packed stars slots hashes k (suc a) 0
+  one-read k a f =
       let z : suc a - 1 ≡ a = omega arith in
-      stand-next words packed stars slots hashes keys k 0 (suc a) (record { over = true; probe = 0; left = a })
-      (ap (λ (n : ℕ). record { over = true; probe = 0; left = n }) (sym z) ∙ way-empty words packed stars slots (homeAt slots hashes k) (markOf (getD hashes k 0)) (suc a) 0 (omega arith) ((homeAt slots hashes k + 0 * 0) % slots) refl _ refl (empty-glance k f))
-      refl h
+      ap (λ (n : ℕ). record { over = true; probe = 0; left = n }) (sym z) ∙ way-empty words packed stars slots (homeAt slots hashes k) (markOf (getD hashes k 0)) (suc a) 0 (omega arith) ((homeAt slots hashes k + 0 * 0) % slots) refl _ refl (empty-glance k f)
+
+  one : (k a : ℕ) → filled words (homeAt slots hashes k) ≡ false → k + 1 < keys → from (keys - (k + 1 + 1)) (k + 1) 0 a ≡ from (keys - (k + 1)) k 0 (suc a)
+  one k a f h = stand-next words packed stars slots hashes keys k 0 (suc a) _ (one-read k a f) refl h
 
   -- over n keys with empty home slots
   pub skip : (n k t a b : ℕ) → t ≡ k + n → b ≡ a + n → EmptyHomes words slots hashes k t → t < keys → from (keys - (t + 1)) t 0 a ≡ from (keys - (k + 1)) k 0 b
@@ -177,3 +194,8 @@ module _ (words packed : List ℕ) (stars : List Float) (slots : ℕ) (hashes : 
   -- the allowance ends among them
   pub short : (k t a : ℕ) → t ≡ k + a → EmptyHomes words slots hashes k t → t < keys → record { key = t; probe = 0; left = 0 } ≡ from (keys - (k + 1)) k 0 a
   short k t a te E h = used t ∙ skip a k t 0 a te (omega arith) E h
+
+  -- the last key, its home slot empty, is not gone past
+  pub last-empty : (k a : ℕ) → filled words (homeAt slots hashes k) ≡ false → k + 1 ≡ keys → record { key = k; probe = 0; left = a } ≡ from (keys - (k + 1)) k 0 a
+  last-empty k zero f h = used k
+  last-empty k (suc a) f h = ap (λ (n : ℕ). record { key = k; probe = 0; left = n }) (sym (add-one a)) ∙ stand-last words packed stars slots hashes keys k 0 (suc a) _ (one-read k a f) refl (omega arith)

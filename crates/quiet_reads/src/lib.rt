@@ -135,7 +135,16 @@ fn sixteen_of(n: u32) -> u32
     if n < 16 { n } else { 16 }
 }
 
-// Over the keys from k on, up to sixteen of them and not the last: an empty home slot is a read, the others go along their chains.
+// The key that keys looked at up to `end` lead to: that one, or the last.
+fn no_further(end: u32, keys: u32) -> u32
+    requires { ⌜ 0 < keys ⌝ }
+    ensures { λ r. ⌜ (r ≡ end - (end - (keys - 1))) × (r ≤ end) × (r < keys) ⌝ }
+{
+    if end < keys { end } else { keys - 1 }
+}
+
+// Over the keys from k on, up to sixteen of them: an empty home slot is a read, the others go along their chains. The last key's last
+// read is left.
 fn over_keys(
     k: u32,
     keys: u32,
@@ -147,10 +156,10 @@ fn over_keys(
     sound: u32,
     allowance: u64,
 ) -> Over
-    requires { ⌜ (k + 1 < keys) × (keys ≤ 1024) × (0 < slots) × (tableFits slots (now words) ≡ true) × SoundBelow (now stars) sound × (length (now hashes) ≡ 1024) ⌝ }
+    requires { ⌜ (k < keys) × (keys ≤ 1024) × (0 < slots) × (tableFits slots (now words) ≡ true) × SoundBelow (now stars) sound × (length (now hashes) ≡ 1024) ⌝ }
     ensures { λ r. ⌜ Onward (now (words .entry)) (now (packed .entry)) (now (stars .entry)) slots (now (hashes .entry)) keys k 0 allowance r ⌝ }
 {
-    let n = sixteen_of(keys - 1 - k);
+    let n = sixteen_of(keys - k);
     let mut filled = [0u32; 16];
     let mut homes = [0u64; 16];
     let m = filled_homes(hashes, k, n, slots, words, &mut filled, &mut homes);
@@ -183,11 +192,15 @@ fn over_keys(
         a = s.left;
         j += 1;
     }
-    let empty = (k + n - at) as u64;
+    let end = no_further(k + n, keys);
+    let empty = (end - at) as u64;
     if a < empty {
         return stay(at + a as u32, 0, 0);
     }
-    on_to(k + n, a - empty)
+    if k + n < keys {
+        return on_to(end, a - empty);
+    }
+    stay(end, 0, a - empty)
 }
 
 // The steps of a combination from key k and probe c on: many keys at their first probes, or one.
@@ -207,19 +220,17 @@ fn onward(
     ensures { λ r. ⌜ Onward (now (words .entry)) (now (packed .entry)) (now (stars .entry)) slots (now (hashes .entry)) keys k c allowance r ⌝ }
 {
     if c == 0 {
-        if k + 1 < keys {
-            return over_keys(
-                k,
-                keys,
-                hashes,
-                slots,
-                words,
-                packed,
-                stars,
-                sound,
-                allowance,
-            );
-        }
+        return over_keys(
+            k,
+            keys,
+            hashes,
+            slots,
+            words,
+            packed,
+            stars,
+            sound,
+            allowance,
+        );
     }
     let home = key_hash::hash_to_index(hashes[k as usize], slots);
     over_key(

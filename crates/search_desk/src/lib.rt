@@ -87,26 +87,20 @@ fn no_directions() -> [[f32; 3]; 64]
     [[0.0f32; 3]; 64]
 }
 
-// Lays the desk for a pass: its kept list, worked out anew unless it lies there already.
-pub fn lay_pass(
+// The desk laid anew for a pass: its kept list.
+pub fn lay_anew(
     centroids: &[f32],
     order: &[u32],
     config: SearchConfig,
     passes: &[f32],
-    held: Held,
     pass: u32,
     places: &mut [u32; 64],
     measures: &mut [f32; 2208],
 ) -> Held
-    requires { ⌜ Asked5 (frameOf (now centroids) (now order) config (now passes)) × PassDesk (frameOf (now centroids) (now order) config (now passes)) held (now places) (now measures) × (pass < length (now passes) / 3) ⌝ }
+    requires { ⌜ Asked5 (frameOf (now centroids) (now order) config (now passes)) × (length (now places) ≡ 64) × (length (now measures) ≡ 2208) × (pass < length (now passes) / 3) ⌝ }
     ensures { λ r. ⌜ ForPass (frameOf (now (centroids .entry)) (now (order .entry)) config (now (passes .entry))) pass r (now (places .exit)) (now (measures .exit)) ⌝ }
-    ensures { λ r. ⌜ ((l : List ℕ) → FourDesk (frameOf (now (centroids .entry)) (now (order .entry)) config (now (passes .entry))) held l → FourDesk (frameOf (now (centroids .entry)) (now (order .entry)) config (now (passes .entry))) r l) ⌝ }
+    ensures { λ r. ⌜ ((l : List ℕ) → length l ≡ 1024 → FourDesk (frameOf (now (centroids .entry)) (now (order .entry)) config (now (passes .entry))) r l) ⌝ }
 {
-    if held.passed {
-        if held.pass == pass {
-            return held;
-        }
-    }
     let p = passes::pass_at(passes, pass);
     let mut dirs = no_directions();
     let kept = thinning::thin(
@@ -131,6 +125,29 @@ pub fn lay_pass(
         keys: 0,
         image,
     }
+}
+
+// Lays the desk for a pass: its kept list, worked out anew unless it lies there already.
+pub fn lay_pass(
+    centroids: &[f32],
+    order: &[u32],
+    config: SearchConfig,
+    passes: &[f32],
+    held: Held,
+    pass: u32,
+    places: &mut [u32; 64],
+    measures: &mut [f32; 2208],
+) -> Held
+    requires { ⌜ Asked5 (frameOf (now centroids) (now order) config (now passes)) × PassDesk (frameOf (now centroids) (now order) config (now passes)) held (now places) (now measures) × (pass < length (now passes) / 3) ⌝ }
+    ensures { λ r. ⌜ ForPass (frameOf (now (centroids .entry)) (now (order .entry)) config (now (passes .entry))) pass r (now (places .exit)) (now (measures .exit)) ⌝ }
+    ensures { λ r. ⌜ ((l : List ℕ) → FourDesk (frameOf (now (centroids .entry)) (now (order .entry)) config (now (passes .entry))) held l → FourDesk (frameOf (now (centroids .entry)) (now (order .entry)) config (now (passes .entry))) r l) ⌝ }
+{
+    if held.passed {
+        if held.pass == pass {
+            return held;
+        }
+    }
+    lay_anew(centroids, order, config, passes, pass, places, measures)
 }
 
 // What six angles show, sorted: the largest edge and the five ratios.

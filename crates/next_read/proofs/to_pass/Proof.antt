@@ -40,11 +40,13 @@ reached-requires c κs = search needs
 returns : tie.Need-returns Inv-loop μ-loop
 returns c = (λ w p x. sym (passes-timeout _ _ w p x _ _ _ _ (c .before .before .loop-test .taken) _ (c .before .reached .ensures) (c .if1 .taken)) ∙ c .before .before .before .loop .inv .2 w p x, c .before .before .before .loop .inv .3)
 
-lay-pass-requires : tie.Need-lay-pass-requires Inv-loop μ-loop
-lay-pass-requires c κs = (c .before .before .before .before .before .before .before .before .before .pre .0, c .before .before .before .before .before .loop .inv .3 .pass, c .before .before .before .before .loop-test .taken)
+lay-anew-requires : tie.Need-lay-anew-requires Inv-loop μ-loop
+lay-anew-requires c κs =
+    let d = c .before .before .before .before .before .loop .inv .3 .pass in
+    (c .before .before .before .before .before .before .before .before .before .pre .0, d .places-long, d .measures-long, c .before .before .before .before .loop-test .taken)
 
 begin-pass-requires : tie.Need-begin-pass-requires Inv-loop μ-loop
-begin-pass-requires c κs = kept-64 _ _ _ _ _ (c .lay-pass .ensures .0) (c .before .before .before .before .before .before .before .before .before .before .pre .0)
+begin-pass-requires c κs = kept-64 _ _ _ _ _ (c .lay-anew .ensures .0) (c .before .before .before .before .before .before .before .before .before .before .pre .0)
 
 enum-known-q : tie.Need-enum-known-q Inv-loop μ-loop
 enum-known-q c = search needs
@@ -53,7 +55,7 @@ first-of-requires : tie.Need-first-of-requires Inv-loop μ-loop
 first-of-requires c κs = search needs
 
 returns-2 : tie.Need-returns-2 Inv-loop μ-loop
-returns-2 c = (λ w p x. ap Goes (c .first-of .ensures) ∙ sym (passes-first _ _ w p x _ _ _ _ (c .before .before .before .before .before .before .before .before .before .before .loop-test .taken) _ (c .before .before .before .before .before .before .before .before .before .reached .ensures) (c .before .before .before .before .before .before .before .before .if1 .left) _ (c .before .before .before .before .before .lay-pass .ensures .0 .held .count) _ (c .before .before .before .before .begin-pass .ensures) _ (c .before .before .q .given .1)) ∙ c .before .before .before .before .before .before .before .before .before .before .before .loop .inv .2 w p x, kept-laid _ _ _ _ _ _ _ _ _ (c .before .before .before .before .before .before .before .before .before .before .before .loop .inv .3) (c .before .before .before .before .before .lay-pass .ensures .0) (c .before .before .before .before .before .lay-pass .ensures .1))
+returns-2 c = (λ w p x. ap Goes (c .first-of .ensures) ∙ sym (passes-first _ _ w p x _ _ _ _ (c .before .before .before .before .before .before .before .before .before .before .loop-test .taken) _ (c .before .before .before .before .before .before .before .before .before .reached .ensures) (c .before .before .before .before .before .before .before .before .if1 .left) _ (c .before .before .before .before .before .lay-anew .ensures .0 .held .count) _ (c .before .before .before .before .begin-pass .ensures) _ (c .before .before .q .given .1)) ∙ c .before .before .before .before .before .before .before .before .before .before .before .loop .inv .2 w p x, kept-laid _ _ _ _ _ _ _ _ _ (c .before .before .before .before .before .before .before .before .before .before .before .loop .inv .3) (c .before .before .before .before .before .lay-anew .ensures .0) (λ l d. c .before .before .before .before .before .lay-anew .ensures .1 l (d .hashes-long)))
 
 enum-known-t : tie.Need-enum-known-t Inv-loop μ-loop
 enum-known-t c = search needs
@@ -65,7 +67,7 @@ loop-less : tie.Need-loop-less Inv-loop μ-loop
 loop-less c = omega arith
 
 loop-again : tie.Need-loop-again Inv-loop μ-loop
-loop-again c = (omega (arith, c .before .before .before .before .before .before .before .before .before .loop-test .taken), refl, λ w p x. passes-past _ _ w p x _ _ _ _ (c .before .before .before .before .before .before .before .before .before .loop-test .taken) _ (c .before .before .before .before .before .before .before .before .reached .ensures) (c .before .before .before .before .before .before .before .if1 .left) _ (c .before .before .before .before .lay-pass .ensures .0 .held .count) _ (c .before .before .before .begin-pass .ensures) _ (c .before .t .given .1) ∙ c .before .before .before .before .before .before .before .before .before .before .loop .inv .2 w p x, kept-laid _ _ _ _ _ _ _ _ _ (c .before .before .before .before .before .before .before .before .before .before .loop .inv .3) (c .before .before .before .before .lay-pass .ensures .0) (c .before .before .before .before .lay-pass .ensures .1))
+loop-again c = (omega (arith, c .before .before .before .before .before .before .before .before .before .loop-test .taken), refl, λ w p x. passes-past _ _ w p x _ _ _ _ (c .before .before .before .before .before .before .before .before .before .loop-test .taken) _ (c .before .before .before .before .before .before .before .before .reached .ensures) (c .before .before .before .before .before .before .before .if1 .left) _ (c .before .before .before .before .lay-anew .ensures .0 .held .count) _ (c .before .before .before .begin-pass .ensures) _ (c .before .t .given .1) ∙ c .before .before .before .before .before .before .before .before .before .before .loop .inv .2 w p x, kept-laid _ _ _ _ _ _ _ _ _ (c .before .before .before .before .before .before .before .before .before .before .loop .inv .3) (c .before .before .before .before .lay-anew .ensures .0) (λ l d. c .before .before .before .before .lay-anew .ensures .1 l (d .hashes-long)))
 
 returns-3 : tie.Need-returns-3 Inv-loop μ-loop
 returns-3 c = (λ w p x. sym (passes-end _ _ w p x _ _ _ _ (c .loop-test .left)) ∙ c .before .loop .inv .2 w p x, c .before .loop .inv .3)
@@ -80,7 +82,7 @@ to-pass-spec =
     loop-holds
     reached-requires
     returns
-    lay-pass-requires
+    lay-anew-requires
     begin-pass-requires
     enum-known-q
     first-of-requires

@@ -5,16 +5,13 @@ use borrow.Author.Needs.{needs}
 use Rattle.quiet_reads.proofs.onward.Statement.{statement}
 use Rattle.quiet_reads.proofs.onward.Tie as tie
 
-add-if2 : tie.Need-add-if2
-add-if2 c = search needs
-
 over-keys-requires : tie.Need-over-keys-requires
 over-keys-requires c κs = search needs
 
 returns : tie.Need-returns
 returns c =
-    let a = c .before .before .before .before .before .before .args in
-    subst (λ (x : ℕ). Onward (a .words .now) (a .packed .now) (a .stars .now) (a .slots) (a .hashes .now) (a .keys) (a .k) x (a .allowance) (c .over-keys .result)) (sym (c .before .before .if1 .taken)) (c .over-keys .ensures)
+    let a = c .before .before .before .before .before .args in
+    subst (λ (x : ℕ). Onward (a .words .now) (a .packed .now) (a .stars .now) (a .slots) (a .hashes .now) (a .keys) (a .k) x (a .allowance) (c .over-keys .result)) (sym (c .before .if1 .taken)) (c .over-keys .ensures)
 
 mul-hash-to-index : tie.Need-mul-hash-to-index
 mul-hash-to-index c = search needs
@@ -35,7 +32,6 @@ pub onward-spec : {M : Type 1} → statement M
 onward-spec =
     tie.close
     (tie.spec
-    add-if2
     over-keys-requires
     returns
     mul-hash-to-index
