@@ -1,8 +1,8 @@
 use mathlib.Core.Path.{refl}
 use native.Mathlib.Omega.{arith}
 use lib.Count.{ones-le}
-use Rattle.table_blocks.proofs.ones_of.Statement.{statement}
-use Rattle.table_blocks.proofs.ones_of.Tie as tie
+use Rattle.block_ones.proofs.ones_of.Statement.{statement}
+use Rattle.block_ones.proofs.ones_of.Tie as tie
 
 cast-result : tie.Need-cast-result
 cast-result c = omega (arith, ones-le 64 (c .args .w) (omega arith))

@@ -1,13 +1,13 @@
-use Rattle.table_blocks.specs.declared.Ranked.{Ranked}
+use Rattle.block_ranks.specs.declared.Ranked.{Ranked}
 use Rattle.table_blocks.specs.Blocks.{place}
-use Rattle.table_blocks.proofs.Places.{rank-out, rank-in}
+use Rattle.block_ranks.proofs.Places.{rank-out, rank-in}
 use lib.ListN.{getD}
 use mathlib.Core.Path.{ap, _∙_}
 use Prim.Native.Nat.{ℕ, _+_, _*_, _/_}
 use native.Mathlib.Omega.{arith}
 use borrow.Author.Needs.{needs}
-use Rattle.table_blocks.proofs.block_rank.Statement.{statement}
-use Rattle.table_blocks.proofs.block_rank.Tie as tie
+use Rattle.block_ranks.proofs.block_rank.Statement.{statement}
+use Rattle.block_ranks.proofs.block_rank.Tie as tie
 
 mul-at : tie.Need-mul-at
 mul-at c = search needs

@@ -1,11 +1,11 @@
 use Prim.Native.Nat.{ℕ, _%_}
 use lib.Count.{ones}
 use mathlib.Core.Path.{ap, _∙_}
-use Rattle.table_blocks.proofs.Ones.{shifted}
+use Rattle.block_ones.proofs.Ones.{shifted}
 use lib.Pow.{pow-pos}
 use borrow.Author.Needs.{needs}
-use Rattle.table_blocks.proofs.ones_below.Statement.{statement}
-use Rattle.table_blocks.proofs.ones_below.Tie as tie
+use Rattle.block_ones.proofs.ones_below.Statement.{statement}
+use Rattle.block_ones.proofs.ones_below.Tie as tie
 
 shl-p : tie.Need-shl-p
 shl-p c = search needs

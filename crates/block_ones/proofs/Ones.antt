@@ -129,27 +129,40 @@ mask-none : (w : ℕ) → ones (bitAnd w 0) ≡ 0
 unfolding ones
 mask-none w = rw (and-zero-r w)
 
+-- how many of the first k words count, where q do
+first-in : (k q : ℕ) → k ≤ q → k - (k - q) ≡ k
+first-in k q l = omega arith
+
+first-out : (k q : ℕ) → q ≤ k → k - (k - q) ≡ q
+first-out k q l = omega arith
+
+-- a word that counts, and one that does not
+more-in :
+    (words : List ℕ) (b q k : ℕ) → q ≤ 6 → k < q → getD words (b * 8 + 1 + k) 0 < 18446744073709551616
+    → onesIn words (b * 448) (k * 64) + ones (bitAnd (getD words (b * 8 + 1 + k) 0) (getD counted (6 - q + k) 0)) ≡ onesIn words (b * 448) ((k + 1) * 64)
+more-in words b q k hq l fits =
+    rw (mask-first (6 - q + k) (omega arith), mask-all (getD words (b * 8 + 1 + k) 0) fits) (sym (word-more words b k (omega arith) fits))
+
+more-out :
+    (words : List ℕ) (b q k : ℕ) → q ≤ k → k < 6
+    → onesIn words (b * 448) (q * 64) + ones (bitAnd (getD words (b * 8 + 1 + k) 0) (getD counted (6 - q + k) 0)) ≡ onesIn words (b * 448) (q * 64)
+more-out words b q k l hk =
+    let z : 6 - q + k ≡ 6 + (k - q) = omega arith in
+    rw (z, mask-second (k - q) (omega arith), mask-none, add-zero)
+
 -- one word more of six, where q count
 pub count-step :
     (words : List ℕ) (b q k : ℕ) → q ≤ 6 → k < 6 → getD words (b * 8 + 1 + k) 0 < 18446744073709551616
     → onesIn words (b * 448) ((k - (k - q)) * 64) + ones (bitAnd (getD words (b * 8 + 1 + k) 0) (getD counted (6 - q + k) 0)) ≡ onesIn words (b * 448) ((k + 1 - (k + 1 - q)) * 64)
 count-step words b q k hq hk fits = by (ltb k q) refl
   where
-    w : ℕ
-    w = getD words (b * 8 + 1 + k) 0
-
-    by : (t : Bool) → ltb k q ≡ t → onesIn words (b * 448) ((k - (k - q)) * 64) + ones (bitAnd w (getD counted (6 - q + k) 0)) ≡ onesIn words (b * 448) ((k + 1 - (k + 1 - q)) * 64)
+    by : (t : Bool) → ltb k q ≡ t → onesIn words (b * 448) ((k - (k - q)) * 64) + ones (bitAnd (getD words (b * 8 + 1 + k) 0) (getD counted (6 - q + k) 0)) ≡ onesIn words (b * 448) ((k + 1 - (k + 1 - q)) * 64)
     by true e =
         let l = ltb-true k q e in
-        let x : k - (k - q) ≡ k = omega (arith, l) in
-        let y : k + 1 - (k + 1 - q) ≡ k + 1 = omega (arith, l) in
-        rw (x, y, mask-first (6 - q + k) (omega (arith, l)), mask-all w fits) (sym (word-more words b k (omega arith) fits))
+        rw (first-in k q (omega (arith, l)), first-in (k + 1) q (omega (arith, l))) (more-in words b q k hq l fits)
     by false e =
         let l = ltb-false k q e in
-        let x : k - (k - q) ≡ q = omega (arith, l) in
-        let y : k + 1 - (k + 1 - q) ≡ q = omega (arith, l) in
-        let z : 6 - q + k ≡ 6 + (k - q) = omega (arith, l) in
-        rw (x, y, z, mask-second (k - q) (omega (arith, l)), mask-none w, add-zero)
+        rw (first-out k q l, first-out (k + 1) q (omega (arith, l))) (more-out words b q k l hk)
 
 pub count-none : (words : List ℕ) (b q : ℕ) → 0 ≡ onesIn words (b * 448) ((0 - (0 - q)) * 64)
 unfolding onesIn

@@ -1,10 +1,10 @@
 use mathlib.Core.Path.{sym, ap₂, _∙_}
 use Prim.Native.Nat.{_+_}
 use native.Mathlib.Omega.{arith}
-use Rattle.table_blocks.proofs.Ones.{word-last}
+use Rattle.block_ones.proofs.Ones.{word-last}
 use borrow.Author.Needs.{needs}
-use Rattle.table_blocks.proofs.ones_before.Statement.{statement}
-use Rattle.table_blocks.proofs.ones_before.Tie as tie
+use Rattle.block_ones.proofs.ones_before.Statement.{statement}
+use Rattle.block_ones.proofs.ones_before.Tie as tie
 
 mul-at : tie.Need-mul-at
 mul-at c = search needs

@@ -1,10 +1,10 @@
 use Prim.Native.Nat.{_+_, _*_, _-_, _≤_, _/_}
 use mathlib.Core.Path.{_≡_, refl, sym, ap, ap₂, _∙_}
 use native.Mathlib.Omega.{arith}
 use Rattle.table_blocks.specs.Blocks.{onesIn}
-use Rattle.table_blocks.proofs.Ones.{ones-le, word-more, word-last}
-use Rattle.table_blocks.proofs.ones_in.Statement.{statement}
-use Rattle.table_blocks.proofs.ones_in.Tie as tie
+use Rattle.block_ones.proofs.Ones.{ones-le, word-more, word-last}
+use Rattle.block_ones.proofs.ones_in.Statement.{statement}
+use Rattle.block_ones.proofs.ones_in.Tie as tie
 
 abbrev Inv-loop : tie.InvT-loop
 Inv-loop words block n first whole sum₀ k₀ sum k = (k ≤ whole) × (sum ≡ onesIn words (block * 448) (k * 64))

@@ -1,10 +1,10 @@
 use Prim.Native.Nat.{ℕ, _+_, _*_, _-_, _≤_}
 use mathlib.Core.Path.{_≡_, ap, ap₂, _∙_}
 use native.Mathlib.Omega.{arith}
 use Rattle.table_blocks.specs.Blocks.{onesIn}
-use Rattle.table_blocks.proofs.Ones.{count-none, count-step}
-use Rattle.table_blocks.proofs.ones_whole.Statement.{statement}
-use Rattle.table_blocks.proofs.ones_whole.Tie as tie
+use Rattle.block_ones.proofs.Ones.{count-none, count-step}
+use Rattle.block_ones.proofs.ones_whole.Statement.{statement}
+use Rattle.block_ones.proofs.ones_whole.Tie as tie
 
 abbrev Inv-loop : tie.InvT-loop
 Inv-loop words block q first masks sum₀ k₀ sum k = (k ≤ 6) × (sum ≤ k * 64) × (sum ≡ onesIn words (block * 448) ((k - (k - q)) * 64))

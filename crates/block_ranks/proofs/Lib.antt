@@ -1,2 +1,1 @@
-pub mod Ones
 pub mod Places

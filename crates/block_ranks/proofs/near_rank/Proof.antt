@@ -2,10 +2,10 @@ use mathlib.Core.Path.{sym, ap, ap₂, _∙_}
 use Prim.Native.Nat.{_+_}
 use native.Mathlib.Omega.{arith}
 use borrow.Author.Needs.{needs}
-use Rattle.table_blocks.specs.declared.Ranked.{Ranked}
-use Rattle.table_blocks.proofs.Places.{rank-out, rank-in, near-place}
-use Rattle.table_blocks.proofs.near_rank.Statement.{statement}
-use Rattle.table_blocks.proofs.near_rank.Tie as tie
+use Rattle.block_ranks.specs.declared.Ranked.{Ranked}
+use Rattle.block_ranks.proofs.Places.{rank-out, rank-in, near-place}
+use Rattle.block_ranks.proofs.near_rank.Statement.{statement}
+use Rattle.block_ranks.proofs.near_rank.Tie as tie
 
 mul-at : tie.Need-mul-at
 mul-at c = search needs

@@ -3,8 +3,8 @@ use Prim.Native.Nat.{ℕ}
 use mathlib.Core.Bool.{cond}
 use mathlib.Core.List.{List}
 use lib.Dec.{ltb}
 use Rattle.table_blocks.specs.Blocks.{place}
-use Rattle.table_blocks.specs.declared.Ranked.{Ranked}
+use Rattle.block_ranks.specs.declared.Ranked.{Ranked}
 
 -- the slot's place, where it is below the number of entries held, else none
 unfoldable pub rankedAt : List ℕ → ℕ → ℕ → Ranked

@@ -6,10 +6,10 @@ use native.Mathlib.Omega.{arith}
 use lib.ListN.{getD}
 use lib.Count.{ones}
 use borrow.Author.Tests.{lt-ltb, le-ltb}
 use Rattle.table_blocks.specs.Blocks.{onesIn, place}
-use Rattle.table_blocks.proofs.Ones.{ones-join, word-part}
-use Rattle.table_blocks.specs.Places.{rankedAt}
-use Rattle.table_blocks.specs.declared.Ranked.{Ranked}
+use Rattle.block_ones.proofs.Ones.{ones-join, word-part}
+use Rattle.block_ranks.specs.Places.{rankedAt}
+use Rattle.block_ranks.specs.declared.Ranked.{Ranked}
 
 pub rank-out : (words : List ℕ) (s held : ℕ) → held ≤ place words s → Ranked.Outside ≡ rankedAt words s held
 unfolding rankedAt
