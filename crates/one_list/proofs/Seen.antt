@@ -10,7 +10,7 @@ use Rattle.square_root.specs.Root.{rootOf}
 use Rattle.square_root.proofs.Examples.{root-is, right}
 use Rattle.square_root.proofs.Laws.{root-nought}
 use Rattle.arc.specs.Arc.{arcOf}
-use Rattle.pattern.specs.Sort.{insert, inserted, sorted}
+use Rattle.edge_order.specs.Sort.{insert, inserted, sorted}
 use Rattle.pattern.specs.Edges.{squaredDistance, angleOf, angle, angles, edgesOf, shares, ratiosOf}
 use Rattle.preprocess.specs.Vectors.{normOf, overNorm, unitOf, vectorOf}
 use Rattle.brightness_list.specs.Order.{centroidOf}

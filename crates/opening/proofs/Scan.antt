@@ -22,7 +22,7 @@ use Rattle.sound_entries.specs.Shortcuts.{indicesBelow}
 use Rattle.sound_entries.proofs.Indices.{indices-sound-at}
 use Rattle.opening.specs.declared.Ranks.{Ranks}
 use Rattle.star_slice.proofs.Every.{every-suc, every-at, every-fails, every-same, both-l, both-r}
-use Rattle.table_blocks.proofs.Ones.{bit-le, ones-join, ones-suc}
+use Rattle.block_ones.proofs.Ones.{bit-le, ones-join, ones-suc}
 
 -- ---- the packed entries
 

@@ -5,11 +5,11 @@ ghost use lib.ListN.{length};
 ghost use Rattle.opening.specs.Answers.{openedSays};
 ghost use Rattle.opening.specs.Opening.{tailClear, indexRight, opening};
 ghost use Rattle.opening.specs.Shortcuts.{ranksRead, allSound, allBelow};
+use block_ones::ones_in;
 use sound_entries::entry_sound_at;
 use sound_entries::indices_below_at;
 use star_slice::every_star_sound;
 use star_slice::stars_fit;
-use table_blocks::ones_in;
 use table_blocks::table_fits;
 
 // What the opening check says.

@@ -28,13 +28,13 @@ use Rattle.float_order.proofs.Truncation.{smaller-reaches, smaller-right}
 use Rattle.float_order.proofs.KeyParts.{ratios-rise-in}
 use Rattle.float_order.proofs.Intervals.{in-finite, in-wider, in-add, in-sub, in-mul-up, in-square, mul-nonneg}
 use Rattle.float_order.proofs.Risings.{rising-at, between-at}
-use Rattle.pattern.specs.Sort.{sorted, Chained, chained-none, chained-one, chained}
-use Rattle.pattern.proofs.Sorting.{Each, each-none, each}
+use Rattle.edge_order.specs.Sort.{sorted, Chained, chained-none, chained-one, chained}
+use Rattle.edge_order.proofs.Sorting.{Each, each-none, each}
 use Rattle.pattern.specs.Edges.{squared, squaredDistance, distance, angleOf, angle, angles, edgesOf, shares, noughts, ratiosOf}
 use Rattle.pattern.specs.Directions.{Small, Direction}
 use Rattle.pattern.specs.Claims.{EdgesRise, EdgesPermuted, EdgeRatiosRise, DirectionsRatios}
-use Rattle.pattern.proofs.Insertion.{sorted-length}
-use Rattle.pattern.proofs.Sorting.{Comparable, Ready, ready-none, ready, each-map, sorted-perm, sorted-each, sorted-chained}
+use Rattle.edge_order.proofs.Insertion.{sorted-length}
+use Rattle.edge_order.proofs.Sorting.{Comparable, Ready, ready-none, ready, each-map, sorted-perm, sorted-each, sorted-chained}
 
 -- ---- floats sorted upwards
 rising-of : {l : List Float} → Chained (λ x y. T (le x y)) l → Rising l

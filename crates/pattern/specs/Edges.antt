@@ -7,7 +7,7 @@ use Rattle.float_order.specs.Value.{zero32, one32, two32, half32}
 use Rattle.square_root.specs.Root.{rootOf}
 use Rattle.arc.specs.Arc.{arcOf}
 use Rattle.float_order.specs.Choice.{smaller}
-use Rattle.pattern.specs.Sort.{sorted}
+use Rattle.edge_order.specs.Sort.{sorted}
 
 -- "The source's powi(2) is read as a product of the value with itself."
 abbrev pub squared : Float → Float

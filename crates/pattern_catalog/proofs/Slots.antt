@@ -13,8 +13,8 @@ use Rattle.pattern_entry.specs.Entry.{inSection}
 use Rattle.pattern_catalog.specs.Answers.{filledAt, empty, refused}
 use Rattle.pattern_catalog.specs.Placed.{foundBy}
 use Rattle.pattern_catalog.specs.SlotRead.{slotIn, slotRead}
-use Rattle.table_blocks.specs.Places.{rankedAt}
-use Rattle.table_blocks.specs.declared.Ranked.{Ranked}
+use Rattle.block_ranks.specs.Places.{rankedAt}
+use Rattle.block_ranks.specs.declared.Ranked.{Ranked}
 use Rattle.star_slice.proofs.Every.{both-l, both-r}
 
 -- ---- question 6

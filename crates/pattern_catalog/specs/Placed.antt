@@ -3,7 +3,7 @@ use mathlib.Core.Path.{_≡_}
 use Prim.Native.Nat.{ℕ, _≤_, _<_}
 use mathlib.Core.List.{List}
 use Rattle.table_blocks.specs.Blocks.{place}
-use Rattle.table_blocks.specs.declared.Ranked.{Ranked}
+use Rattle.block_ranks.specs.declared.Ranked.{Ranked}
 use Rattle.pattern_catalog.specs.Answers.{Answer, filledAt, refused}
 
 -- what a filled slot's place says: where its entry is, or 9

@@ -5,11 +5,11 @@ ghost use lib.ListN.{length};
 ghost use Rattle.pattern_catalog.specs.Answers.{foundSays, slotSays};
 ghost use Rattle.pattern_catalog.specs.SlotRead.{slotIn, slotRead, sectionPart};
 ghost use Rattle.pattern_catalog.specs.Placed.{foundBy, PlaceKnown};
-ghost use Rattle.table_blocks.specs.Places.{rankedAt};
-use table_blocks::Ranked;
-use table_blocks::block_rank;
+ghost use Rattle.block_ranks.specs.Places.{rankedAt};
+use block_ranks::Ranked;
+use block_ranks::block_rank;
+use block_ranks::near_rank;
 use table_blocks::is_filled;
-use table_blocks::near_rank;
 use table_blocks::table_fits;
 
 // Where a slot's entry stands: its place in the packed section.

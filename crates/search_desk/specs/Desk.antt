@@ -9,7 +9,7 @@ use Rattle.float_order.specs.Value.{zero32}
 use Rattle.combinations.specs.declared.Four.{Four}
 use Rattle.candidates.specs.declared.Image.{Image}
 use Rattle.search_feed.specs.Data.{Frame}
-use Rattle.pattern.specs.Sort.{sorted}
+use Rattle.edge_order.specs.Sort.{sorted}
 use Rattle.pattern.specs.Edges.{ratiosOf}
 use Rattle.kept_angles.specs.Measures.{directionAt, AnglesHeld}
 use Rattle.search_feed.specs.Image.{keysIn, hashIn, spotOf, keptPlaces, keptPlace, imageAt}

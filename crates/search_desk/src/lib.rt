@@ -154,7 +154,7 @@ pub fn lay_pass(
 fn image_of(angles: [f32; 6]) -> Image
     ensures { λ r. ⌜ r ≡ imageFrom angles ⌝ }
 {
-    let edges = pattern::sort(angles);
+    let edges = edge_order::sort(angles);
     let ratios = pattern::compute_edge_ratios(edges);
     let edge = edges[5];
     Image { edge, ratios }

@@ -1,6 +1,6 @@
 use Rattle.opening.specs.Shortcuts.{ranksRead}
 use Rattle.opening.proofs.Scan.{right-total, index-wrong, index-tail, index-is}
-use Rattle.table_blocks.proofs.Ones.{ones-le}
+use Rattle.block_ones.proofs.Ones.{ones-le}
 use borrow.Author.Tests.{not-true, not-false}
 use lib.ListN.{length}
 use mathlib.Core.Path.{_≡_, sym, ap, _∙_}

@@ -9,7 +9,7 @@ use Rattle.opening.specs.Opening.{rankRight}
 use Rattle.table_blocks.specs.Blocks.{onesIn}
 use Rattle.star_slice.specs.Ask.{every}
 use Rattle.opening.proofs.Scan.{block-more, ranks-wrong, ranks-right}
-use Rattle.table_blocks.proofs.Ones.{ones-le}
+use Rattle.block_ones.proofs.Ones.{ones-le}
 use Rattle.opening.specs.declared.Ranks.{Ranks}
 use Rattle.opening.proofs.ranks_of.Statement.{statement}
 use Rattle.opening.proofs.ranks_of.Tie as tie

@@ -1,6 +1,6 @@
 use mathlib.Core.Path.{ap, _∙_}
 use lib.Ieee.{lt}
-use Rattle.pattern.specs.Sort.{sorted}
+use Rattle.edge_order.specs.Sort.{sorted}
 use Rattle.pattern.specs.Edges.{edgesOf}
 use borrow.Author.Needs.{needs}
 use Rattle.pattern.proofs.compute_sorted_edge_angles.Statement.{statement}

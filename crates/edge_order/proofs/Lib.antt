@@ -1,0 +1,4 @@
+pub mod Insertion
+pub mod Sorting
+pub mod Carrying
+pub mod Above
