@@ -9,12 +9,12 @@ use Rattle.pattern.proofs.compute_sorted_edge_angles.Tie as tie
 angles-requires : tie.Need-angles-requires
 angles-requires c κs = search needs
 
-sort-requires : tie.Need-sort-requires
-sort-requires c κs = search needs
+sort-any-requires : tie.Need-sort-any-requires
+sort-any-requires c κs = search needs
 
 returns : tie.Need-returns
 unfolding edgesOf
-returns c = c .sort .ensures ∙ ap (sorted lt) (c .before .angles .ensures)
+returns c = c .sort-any .ensures ∙ ap (sorted lt) (c .before .angles .ensures)
 
 pub compute-sorted-edge-angles-spec : {M : Type 1} → statement M
-compute-sorted-edge-angles-spec = tie.close (tie.spec angles-requires sort-requires returns)
+compute-sorted-edge-angles-spec = tie.close (tie.spec angles-requires sort-any-requires returns)
