@@ -1,4 +1,5 @@
 use Rattle.table_blocks.specs.Blocks.{tableFits}
+use native.Mathlib.Omega.{arith}
 use borrow.Author.Tests.{lt-leb, le-leb}
 use borrow.Author.Needs.{needs}
 use Rattle.table_blocks.proofs.table_fits.Statement.{statement}
@@ -6,7 +7,7 @@ use Rattle.table_blocks.proofs.table_fits.Tie as tie
 
 returns : tie.Need-returns
 unfolding tableFits
-returns c = simp (lt-leb _ _ (c .if1 .taken))
+returns c = simp (lt-leb (c .before .args .slots) 16777216 (omega (arith, c .if1 .taken)))
 
 add-result : tie.Need-add-result
 add-result c = search needs
@@ -16,7 +17,7 @@ mul-result c = search needs
 
 returns-2 : tie.Need-returns-2
 unfolding tableFits
-returns-2 c = simp (le-leb _ _ (c .if1 .left))
+returns-2 c = simp (le-leb (c .before .args .slots) 16777216 (omega (arith, c .if1 .left)))
 
 pub table-fits-spec : {M : Type 1} → statement M
 table-fits-spec = tie.close (tie.spec returns add-result mul-result returns-2)
