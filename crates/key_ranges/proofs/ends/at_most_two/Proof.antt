@@ -1,10 +1,10 @@
 use mathlib.Core.Path.{sym, _∙_}
 use borrow.Author.Tests.{not-true, not-false}
-use Rattle.key_codes.specs.Codes.{twoAtMost}
-use Rattle.key_codes.proofs.Two.{no-first, yes-first}
+use Rattle.key_ranges.specs.TwoValues.{twoAtMost}
+use Rattle.key_ranges.proofs.Two.{no-first, yes-first}
 use borrow.Author.Needs.{needs}
-use Rattle.key_codes.proofs.ends.at_most_two.Statement.{statement}
-use Rattle.key_codes.proofs.ends.at_most_two.Tie as tie
+use Rattle.key_ranges.proofs.ends.at_most_two.Statement.{statement}
+use Rattle.key_ranges.proofs.ends.at_most_two.Tie as tie
 
 array-read-pair : tie.Need-array-read-pair
 array-read-pair c = search needs

@@ -4,10 +4,10 @@ use native.Mathlib.Omega.{arith}
 use lib.Ieee.{le, toUnsigned}
 use mir.Val.{boolByte}
 use Rattle.float_order.specs.KeyPart.{bins32}
-use Rattle.key_codes.proofs.Cuts.{exact, part-small, next-small, high-near}
+use Rattle.key_ranges.proofs.Cuts.{exact, part-small, next-small, high-near}
 use borrow.Author.Needs.{needs}
-use Rattle.key_codes.proofs.ends.high.Statement.{statement}
-use Rattle.key_codes.proofs.ends.high.Tie as tie
+use Rattle.key_ranges.proofs.ends.high.Statement.{statement}
+use Rattle.key_ranges.proofs.ends.high.Tie as tie
 
 int-to-float-b : tie.Need-int-to-float-b
 int-to-float-b c = let s = c .before in exact (s .args .bins) (omega (arith, s .pre .1 .few-bins))

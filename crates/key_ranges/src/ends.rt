@@ -6,7 +6,7 @@ ghost use Rattle.float_order.specs.KeyPart.{partOf, lowOf, highOf};
 ghost use Rattle.key_hash.specs.Key.{keyOf};
 ghost use Rattle.pattern_keys.specs.Ranges.{lowerOf, upperOf};
 ghost use Rattle.float_order.specs.KeyPart.{NarrowTolerance};
-ghost use Rattle.key_codes.specs.Codes.{pairOf, twoAtMost};
+ghost use Rattle.key_ranges.specs.TwoValues.{pairOf, twoAtMost};
 
 // The number before k, or 0.
 fn before(k: u32) -> u32

@@ -1,11 +1,11 @@
 use mathlib.Core.Path.{sym, _∙_}
 use Rattle.pattern_keys.specs.Ranges.{keysFor}
 use Rattle.pattern_keys.proofs.Ranges.{ranges-narrow, image-in-ranges, upper-parts}
-use Rattle.key_codes.proofs.Image.{image-pairs}
-use Rattle.key_codes.proofs.Two.{two-of}
+use Rattle.key_ranges.proofs.Image.{image-pairs}
+use Rattle.key_ranges.proofs.Two.{two-of}
 use borrow.Author.Needs.{needs}
-use Rattle.key_codes.proofs.key_hashes.Statement.{statement}
-use Rattle.key_codes.proofs.key_hashes.Tie as tie
+use Rattle.key_ranges.proofs.key_hashes.Statement.{statement}
+use Rattle.key_ranges.proofs.key_hashes.Tie as tie
 
 compute-pattern-key-requires : tie.Need-compute-pattern-key-requires
 compute-pattern-key-requires c κs = search needs

@@ -2,10 +2,10 @@ use mathlib.Core.Path.{ap, _∙_}
 use native.Mathlib.Omega.{arith}
 use lib.Ieee.{binary32, sub, mul, le, ofBits, toUnsigned}
 use Rattle.float_order.specs.KeyPart.{bins32}
-use Rattle.key_codes.proofs.Cuts.{exact, byte-most, part-small, near-small, low-near, low-none}
+use Rattle.key_ranges.proofs.Cuts.{exact, byte-most, part-small, near-small, low-near, low-none}
 use borrow.Author.Needs.{needs}
-use Rattle.key_codes.proofs.ends.low.Statement.{statement}
-use Rattle.key_codes.proofs.ends.low.Tie as tie
+use Rattle.key_ranges.proofs.ends.low.Statement.{statement}
+use Rattle.key_ranges.proofs.ends.low.Tie as tie
 
 int-to-float-x : tie.Need-int-to-float-x
 int-to-float-x c = let s = c .before in exact (s .args .bins) (omega (arith, s .pre .1 .few-bins))

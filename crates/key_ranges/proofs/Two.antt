@@ -6,7 +6,8 @@ use mathlib.Core.List.{List}
 use borrow.Author.Tests.{leb-true}
 use lib.ListN.{getD}
 use Rattle.float_order.proofs.Tests.{both}
-use Rattle.key_codes.specs.Codes.{pairOf, twoAtMost, Two}
+use Rattle.key_codes.specs.Codes.{Two}
+use Rattle.key_ranges.specs.TwoValues.{pairOf, twoAtMost}
 
 -- the tests one after the other
 pub no-first : (a b : Bool) → a ≡ false → false ≡ a && b

@@ -1,6 +1,6 @@
 use borrow.Author.Needs.{needs}
-use Rattle.key_codes.proofs.ends.pair.Statement.{statement}
-use Rattle.key_codes.proofs.ends.pair.Tie as tie
+use Rattle.key_ranges.proofs.ends.pair.Statement.{statement}
+use Rattle.key_ranges.proofs.ends.pair.Tie as tie
 
 add-result : tie.Need-add-result
 add-result c = search needs
