@@ -1,8 +1,8 @@
 use borrow.Author.Needs.{needs}
 use mathlib.Core.Path.{refl}
-use Rattle.thinning.specs.Thinning.{dot}
-use Rattle.thinning.proofs.dot.Statement.{statement}
-use Rattle.thinning.proofs.dot.Tie as tie
+use Rattle.crowding.specs.Crowded.{dot}
+use Rattle.crowding.proofs.dot.Statement.{statement}
+use Rattle.crowding.proofs.dot.Tie as tie
 
 array-read-result : tie.Need-array-read-result
 array-read-result c = search needs

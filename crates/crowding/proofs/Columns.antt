@@ -7,7 +7,7 @@ use native.Mathlib.Numerals.{add-one}
 use lib.ListN.{length, getD, take, set, length-set}
 use lib.Seq.{getD-set-same, getD-set-other, take-suc-set}
 use lib.Ieee.{Float, nan}
-use Rattle.thinning.specs.Columns.{rowAt, rowsOf}
+use Rattle.crowding.specs.Columns.{rowAt, rowsOf}
 
 -- a list of three is its three elements
 three : (v : List Float) → length v ≡ 3 → (getD v 0 nan ∷ getD v 1 nan ∷ getD v 2 nan ∷ []) ≡ v

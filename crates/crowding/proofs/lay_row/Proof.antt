@@ -1,9 +1,9 @@
 use mathlib.Core.Path.{_≡_}
 use borrow.Author.Needs.{needs}
 use lib.ListN.{length}
-use Rattle.thinning.proofs.Columns.{laid-long, vector-laid}
-use Rattle.thinning.proofs.lay_row.Statement.{statement}
-use Rattle.thinning.proofs.lay_row.Tie as tie
+use Rattle.crowding.proofs.Columns.{laid-long, vector-laid}
+use Rattle.crowding.proofs.lay_row.Statement.{statement}
+use Rattle.crowding.proofs.lay_row.Tie as tie
 
 array-read-cols : tie.Need-array-read-cols
 array-read-cols c = search needs

@@ -5,11 +5,11 @@ use native.Mathlib.Omega.{arith}
 use native.Mathlib.Numerals.{add-one}
 use borrow.Author.Needs.{needs}
 use lib.Ieee.{lt}
-use Rattle.thinning.specs.Thinning.{crowded}
-use Rattle.thinning.specs.Columns.{rowAt, rowsOf}
-use Rattle.thinning.proofs.Laws.{near-none, near-yes, near-no}
-use Rattle.thinning.proofs.is_crowded.Statement.{statement}
-use Rattle.thinning.proofs.is_crowded.Tie as tie
+use Rattle.crowding.specs.Crowded.{crowded}
+use Rattle.crowding.specs.Columns.{rowAt, rowsOf}
+use Rattle.crowding.proofs.Crowds.{near-none, near-yes, near-no}
+use Rattle.crowding.proofs.is_crowded.Statement.{statement}
+use Rattle.crowding.proofs.is_crowded.Tie as tie
 
 abbrev Inv-loop : tie.InvT-loop
 Inv-loop cosine v cols n near₀ j₀ near j = (j ≤ n) × (near ≡ crowded cosine v (rowsOf cols j))
