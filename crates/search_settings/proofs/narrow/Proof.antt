@@ -1,11 +1,11 @@
--- `tolerance::narrow` meets its contract. Assumes nothing.
+-- `search_settings::narrow` meets its contract. Assumes nothing.
 use borrow.Author.Needs.{needs}
 use lib.Dec.{le→leb, lit≤}
 use native.Mathlib.Nat.{le-trans}
 use lib.Ieee.{inFloat, ofBits}
-use Rattle.tolerance.specs.Tolerances.{narrowFits}
-use Rattle.tolerance.proofs.narrow.Statement.{statement}
-use Rattle.tolerance.proofs.narrow.Tie as tie
+use Rattle.search_settings.specs.Limits.{narrowFits}
+use Rattle.search_settings.proofs.narrow.Statement.{statement}
+use Rattle.search_settings.proofs.narrow.Tie as tie
 
 max-error-requires : tie.Need-max-error-requires
 max-error-requires c κs = search needs

@@ -17,10 +17,11 @@ use Rattle.float_order.proofs.Order.{le-through, not-lt, finite-number, holds}
 use Rattle.float_order.proofs.Intervals.{in-finite, in-wider, in-div}
 use Rattle.float_order.proofs.Bounds.{finite-between}
 use Rattle.float_order.proofs.KeyParts.{bins-value}
-use Rattle.tolerance.specs.Tolerances.{eight, wantedOf, ceilingOf, toleranceOf, optionFits, narrowFits, settingsFit}
-use Rattle.tolerance.specs.Claims.{SettingsFitting}
+use Rattle.tolerance.specs.Tolerances.{eight, wantedOf, ceilingOf, toleranceOf, optionFits}
+use Rattle.search_settings.specs.Limits.{narrowFits, settingsFit}
+use Rattle.search_settings.specs.Claims.{SettingsFitting}
 use Rattle.tolerance.specs.declared.Tolerance.{Tolerance}
 use Rattle.tolerance.specs.declared.Tolerance.the-variants.{Given, Absent}
 
 -- finite and not negative
 record Good (x : Float) : Type 0 where
