@@ -3,4 +3,5 @@ pub mod EachFour
 pub mod Walk
 pub mod Count
 pub mod Successor
+pub mod Steps
 pub mod Cases

@@ -4,6 +4,4 @@ pub mod Around
 pub mod ByCodes
 pub mod Doubling
 pub mod Puts
-pub mod Image
-pub mod Cuts
-pub mod Two
+pub mod Small

@@ -1,9 +1,9 @@
 -- A key in ranges of at most two values a part as a code of five bits, part 0 the highest: a bit is 0 where the part is at its lower
 -- end and 1 where it is one above. Definitions only.
 use Prim.Native.Nat.{ℕ, _+_, _-_, _*_, _/_, _%_, _^_, _≤_}
-use mathlib.Core.Bool.{Bool, cond, _&&_}
+use mathlib.Core.Bool.{Bool, cond}
 use mathlib.Core.List.{List, [], _∷_}
-use lib.Dec.{eqb, leb}
+use lib.Dec.{eqb}
 use lib.ListN.{getD}
 use Rattle.key_hash.specs.Key.{Parts}
 
@@ -33,14 +33,6 @@ pub record Two (lo hi : List ℕ) : Type 0 where
   pub third : getD hi 2 0 ≤ getD lo 2 0 + 1
   pub fourth : getD hi 3 0 ≤ getD lo 3 0 + 1
   pub fifth : getD hi 4 0 ≤ getD lo 4 0 + 1
-
--- whether a range has at most two values
-abbrev pub pairOf : ℕ → ℕ → Bool
-pairOf lo hi = leb hi (lo + 1)
-
--- whether every part has at most two values
-unfoldable pub twoAtMost : List ℕ → List ℕ → Bool
-twoAtMost lo hi = pairOf (getD lo 0 0) (getD hi 0 0) && (pairOf (getD lo 1 0) (getD hi 1 0) && (pairOf (getD lo 2 0) (getD hi 2 0) && (pairOf (getD lo 3 0) (getD hi 3 0) && pairOf (getD lo 4 0) (getD hi 4 0))))
 
 -- part i of c lies in its range
 abbrev pub Within : ℕ → List ℕ → List ℕ → List ℕ → Type 0

@@ -9,7 +9,8 @@ use lib.Ieee.{le, ofBits, mul, div, ofInt, neg}
 use Rattle.float.specs.Magnitude.{magnitudeOf}
 use Rattle.preprocess.specs.Questions.{centroidsFit, coordinateFits, coordinatesFit}
 use Rattle.brightness_list.specs.Order.{allBelow, among, noneTwice, orderFits}
-use Rattle.tolerance.specs.Tolerances.{toleranceOf, narrowFits, settingsFit}
+use Rattle.tolerance.specs.Tolerances.{toleranceOf}
+use Rattle.search_settings.specs.Limits.{narrowFits, settingsFit}
 use Rattle.passes.specs.Passes.{fieldFits, scaleFits, cosineFits, passFits, passAt, firstFit, passesFit}
 use Rattle.table_blocks.specs.Blocks.{tableFits, bitAt, onesIn, place}
 use Rattle.star_slice.specs.Ask.{every}

@@ -15,7 +15,8 @@ use Rattle.pattern.specs.Edges.{squaredDistance, angleOf, angle, angles, edgesO
 use Rattle.preprocess.specs.Vectors.{normOf, overNorm, unitOf, vectorOf}
 use Rattle.brightness_list.specs.Order.{centroidOf}
 use Rattle.passes.specs.Passes.{passAt}
-use Rattle.thinning.specs.Thinning.{dot, crowded, thinned, keptOf}
+use Rattle.crowding.specs.Crowded.{dot, crowded}
+use Rattle.thinning.specs.Thinning.{thinned, keptOf}
 use Rattle.candidates.specs.declared.Image.{Image}
 use Rattle.combinations.specs.declared.Four.{Four}
 use Rattle.search_feed.specs.Image.{spotOf, keptPlaces, directionsOf, imageOf, imageAt}

@@ -169,7 +169,7 @@ fn prepare(config: SearchConfig, angles: [f32; 6], hashes: &mut [u64; 1024]) -> 
     let ratios = image.ratios;
     let own = config.matching;
     let e = tolerance::max_error(own, config.error, config.bins);
-    let n = key_codes::key_hashes(ratios, e, config.bins, hashes);
+    let n = key_ranges::key_hashes(ratios, e, config.bins, hashes);
     Readied {
         keys: n as u32,
         image,

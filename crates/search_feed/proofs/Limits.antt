@@ -7,8 +7,8 @@ use lib.ListN.{length}
 use Rattle.combinations.specs.declared.Four.{Four}
 use Rattle.combinations.specs.Fours.{Rising}
 use Rattle.passes.proofs.Laws.{passes-fitting}
-use Rattle.tolerance.specs.Claims.{Fitting}
-use Rattle.tolerance.proofs.Settings.{settings-fitting}
+use Rattle.search_settings.specs.Claims.{Fitting}
+use Rattle.search_settings.proofs.Settings.{settings-fitting}
 use Rattle.pattern_catalog.proofs.Slots.{fits-few}
 use Rattle.float_order.specs.KeyPart.{NarrowTolerance}
 use Rattle.pattern_keys.proofs.Ranges.{keys-count}

@@ -21,7 +21,8 @@ use Rattle.brightness_list.proofs.Orders.{places-have-centroids}
 use Rattle.preprocess.proofs.Units.{centroid-vectors}
 use Rattle.passes.specs.Passes.{scaleFits, passAt}
 use Rattle.passes.proofs.Laws.{passes-fitting}
-use Rattle.thinning.specs.Thinning.{crowded, thinned, keptOf}
+use Rattle.crowding.specs.Crowded.{crowded}
+use Rattle.thinning.specs.Thinning.{thinned, keptOf}
 use Rattle.pattern.specs.Directions.{Direction, Directions}
 use Rattle.pattern.proofs.Edges.{edges-rise, directions-ratios}
 use Rattle.search_feed.specs.Data.{Frame}

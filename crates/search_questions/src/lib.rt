@@ -70,7 +70,7 @@ fn settings_ok(config: SearchConfig) -> bool
 {
     let own = config.matching;
     let field = config.fov;
-    tolerance::settings_fit(
+    search_settings::settings_fit(
         config.bins,
         config.checking,
         config.error,

@@ -18,7 +18,8 @@ use Rattle.undivided_run.specs.Eight.{phaseFits}
 use Rattle.undivided_run.specs.Step.{start}
 use Rattle.float_order.specs.Value.{zero32, one32, pi32}
 use Rattle.tolerance.specs.declared.Tolerance.{Tolerance}
-use Rattle.tolerance.specs.Tolerances.{optionFits, narrowFits, settingsFit}
+use Rattle.tolerance.specs.Tolerances.{optionFits}
+use Rattle.search_settings.specs.Limits.{narrowFits, settingsFit}
 use Rattle.star_slice.specs.Ask.{ask, every}
 use Rattle.pattern_entry.specs.Entry.{bytesAt}
 use Rattle.star_slice.specs.Stars.{starsFit}

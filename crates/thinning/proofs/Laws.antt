@@ -1,47 +1,15 @@
--- Laws of thinning: a crowd found or not found on the way, and the kept list as it grows. Assumes nothing.
+-- Laws of thinning: the kept list as it grows. Assumes nothing.
 use mathlib.Core.Path.{_≡_, refl, sym, ap, ap₂, _∙_, subst}
 use Prim.Native.Nat.{ℕ, zero, suc, _+_, _-_, _≤_, _<_}
 use native.Mathlib.Omega.{arith}
-use mathlib.Core.Bool.{Bool, true, false, cond, _||_}
+use mathlib.Core.Bool.{true, false, cond}
 use mathlib.Core.List.{List, [], _∷_, _++_, map, append-assoc, append-nil}
 use native.Mathlib.Nat.{zero-add, suc-add}
 use lib.ListN.{length, take, drop, set, length-append, length-take, length-set, length-map, take-append-drop}
 use lib.Seq.{take-suc, take-suc-set, take-append-seam, take-add, take-all}
-use lib.Ieee.{Float, lt}
-use Rattle.thinning.specs.Thinning.{dot, crowded, thinned, keptOf, Kept}
-use Rattle.thinning.specs.Columns.{rowAt, rowsOf}
-
--- ---- a crowd
-module _ (c : Float) (v : List Float) where
-  crowded-append : (xs ys : List (List Float)) → crowded c v (xs ++ ys) ≡ (crowded c v xs || crowded c v ys)
-  unfolding crowded
-  crowded-append [] ys = refl
-  crowded-append (x ∷ xs) ys = by (lt c (dot v x)) (crowded-append xs ys)
-    where
-      by : (b : Bool) → crowded c v (xs ++ ys) ≡ (crowded c v xs || crowded c v ys) → (b || crowded c v (xs ++ ys)) ≡ ((b || crowded c v xs) || crowded c v ys)
-      by true h = refl
-      by false h = h
-
-  or-true : (a : Bool) → (a || true) ≡ true
-  or-true true = refl
-  or-true false = refl
-
-  or-false : (a : Bool) → (a || false) ≡ a
-  or-false true = refl
-  or-false false = refl
-
-  module _ (cols : List Float) where
-    pub near-none : false ≡ crowded c v (rowsOf cols 0)
-    unfolding crowded rowsOf
-    near-none = refl
-
-    pub near-yes : (j : ℕ) → lt c (dot v (rowAt cols j)) ≡ true → true ≡ crowded c v (rowsOf cols (suc j))
-    unfolding crowded rowsOf
-    near-yes j k = rw (crowded-append, k, or-true)
-
-    pub near-no : (j : ℕ) → lt c (dot v (rowAt cols j)) ≡ false → crowded c v (rowsOf cols j) ≡ crowded c v (rowsOf cols (suc j))
-    unfolding crowded rowsOf
-    near-no j k = rw (crowded-append, k, or-false)
+use lib.Ieee.{Float}
+use Rattle.thinning.specs.Thinning.{thinned, keptOf, Kept}
+use Rattle.crowding.specs.Crowded.{crowded}
 
 -- ---- the kept list
 module _ (c : Float) (spot : ℕ → List Float) where

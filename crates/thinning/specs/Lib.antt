@@ -1,3 +1,2 @@
 pub mod Thinning
-pub mod Columns
 pub mod Ahead

@@ -1,24 +1,13 @@
 -- Document 01, "One search": which spots of a pass are kept. Definitions only.
 use mathlib.Core.Path.{_≡_}
 use Prim.Native.Nat.{ℕ, zero, suc}
-use mathlib.Core.Bool.{Bool, true, false, cond, _||_}
+use mathlib.Core.Bool.{cond}
 use mathlib.Core.List.{List, [], _∷_, _++_, map}
-use lib.ListN.{length, getD, take}
-use lib.Ieee.{Float, nan, binary32, add, mul, lt}
+use lib.ListN.{length, take}
+use lib.Ieee.{Float}
 use Rattle.preprocess.specs.Vectors.{vectorOf}
 use Rattle.brightness_list.specs.Order.{centroidOf}
-
--- the dot product of two directions, added from left to right
-unfoldable pub dot : List Float → List Float → Float
-dot a b =
-    add binary32
-    (add binary32 (mul binary32 (getD a 0 nan) (getD b 0 nan)) (mul binary32 (getD a 1 nan) (getD b 1 nan)))
-    (mul binary32 (getD a 2 nan) (getD b 2 nan))
-
--- one of the directions ws has a dot product with v above the cosine; an equal one is not above
-unfoldable pub crowded : Float → List Float → List (List Float) → Bool
-crowded cosine v [] = false
-crowded cosine v (w ∷ ws) = lt cosine (dot v w) || crowded cosine v ws
+use Rattle.crowding.specs.Crowded.{crowded}
 
 -- the direction of the spot at a place of the brightness list, at a pixel scale
 abbrev pub spotAt : List Float → List ℕ → Float → ℕ → List Float

@@ -1,56 +1,18 @@
 // Thinning: the spots of a pass that form patterns, none of them too near to a brighter one that is kept.
 ghost use mathlib.Core.Path.{_≡_};
 ghost use mathlib.Core.Bool.{true};
-ghost use mathlib.Core.List.{[], _∷_, _++_};
-ghost use Prim.Native.Nat.{_+_, _≤_, _<_, suc};
+ghost use Prim.Native.Nat.{_+_, _≤_, _<_};
 ghost use lib.ListN.{length};
 ghost use Rattle.brightness_list.specs.Order.{orderFits};
-ghost use Rattle.thinning.specs.Thinning.{dot, crowded, spotAt, Kept};
-ghost use Rattle.thinning.specs.Columns.{rowsOf};
+ghost use Rattle.thinning.specs.Thinning.{spotAt, Kept};
 ghost use Rattle.thinning.specs.Ahead.{Ahead};
 use brightness_list::Place;
-
-// The dot product of two directions, added from left to right.
-fn dot(a: [f32; 3], b: [f32; 3]) -> f32
-    ensures { λ r. ⌜ r ≡ dot a b ⌝ }
-{
-    a[0] * b[0] + a[1] * b[1] + a[2] * b[2]
-}
 
 // Room for 64 directions by columns.
 fn no_columns() -> [f32; 192]
     ensures { λ r. ⌜ length r ≡ 192 ⌝ }
 {
     [0.0f32; 192]
-}
-
-// The direction v, laid into the columns as the n-th.
-fn lay_row(cols: &mut [f32; 192], n: usize, v: [f32; 3])
-    requires { ⌜ (n < 64) × (length (now cols) ≡ 192) ⌝ }
-    ensures { λ _. ⌜ (length (now (cols .exit)) ≡ 192) × (rowsOf (now (cols .exit)) (suc n) ≡ rowsOf (now (cols .entry)) n ++ (v ∷ [])) ⌝ }
-{
-    cols[n] = v[0];
-    cols[n + 64] = v[1];
-    cols[n + 128] = v[2];
-}
-
-// Whether v has a dot product above the cosine with one of the first n directions. No early end, so that several are asked at once.
-fn is_crowded(cosine: f32, v: [f32; 3], cols: &[f32; 192], n: usize) -> bool
-    requires { ⌜ (n ≤ 64) × (length (now cols) ≡ 192) ⌝ }
-    ensures { λ r. ⌜ r ≡ crowded cosine v (rowsOf (now (cols .entry)) n) ⌝ }
-{
-    let mut near = false;
-    let mut j = 0;
-    while j < n {
-        let x = cols[j];
-        let y = cols[j + 64];
-        let z = cols[j + 128];
-        if cosine < dot(v, [x, y, z]) {
-            near = true;
-        }
-        j += 1;
-    }
-    near
 }
 
 // Room for eight directions.
@@ -122,10 +84,10 @@ pub fn thin(
         let first = at_hand(centroids, order, scale, i, from, &mut ahead);
         from = first;
         let v = ahead[i - first];
-        if !is_crowded(cosine, v, &cols, kept) {
+        if !crowding::is_crowded(cosine, v, &cols, kept) {
             places[kept] = i as u32;
             dirs[kept] = v;
-            lay_row(&mut cols, kept, v);
+            crowding::lay_row(&mut cols, kept, v);
             kept += 1;
         }
         i += 1;

@@ -1,7 +1,6 @@
 -- `combinations::with_a` meets its contract. Assumes nothing.
 use borrow.Author.Needs.{needs}
-use native.Mathlib.Numerals.{add-one}
-use Rattle.combinations.specs.Successor.{withA}
+use Rattle.combinations.proofs.Steps.{with-a-is}
 use Rattle.combinations.proofs.with_a.Statement.{statement}
 use Rattle.combinations.proofs.with_a.Tie as tie
 
@@ -24,8 +23,7 @@ with-b-requires : tie.Need-with-b-requires
 with-b-requires c κs = search needs
 
 returns : tie.Need-returns
-unfolding withA
-returns c = cc (add-one (c .before .larger .result))
+returns c = let a = c .before .before .before .args in with-a-is (a .n) (a .s) (a .a) (c .before .before .less .ensures) (c .before .larger .ensures) (c .with-b .ensures)
 
 pub with-a-spec : {M : Type 1} → statement M
 with-a-spec =

@@ -1,7 +1,6 @@
 -- `combinations::with_b` meets its contract. Assumes nothing.
 use borrow.Author.Needs.{needs}
-use native.Mathlib.Numerals.{add-one}
-use Rattle.combinations.specs.Successor.{withB}
+use Rattle.combinations.proofs.Steps.{with-b-is}
 use Rattle.combinations.proofs.with_b.Statement.{statement}
 use Rattle.combinations.proofs.with_b.Tie as tie
 
@@ -27,8 +26,7 @@ with-c-requires : tie.Need-with-c-requires
 with-c-requires c κs = search needs
 
 returns : tie.Need-returns
-unfolding withB
-returns c = cc (add-one (c .before .larger .result))
+returns c = let a = c .before .before .before .args in with-b-is (a .n) (a .s) (a .a) (a .b) (c .before .before .less .ensures) (c .before .larger .ensures) (c .with-c .ensures)
 
 pub with-b-spec : {M : Type 1} → statement M
 with-b-spec =

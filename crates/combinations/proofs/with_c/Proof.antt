@@ -1,6 +1,6 @@
 -- `combinations::with_c` meets its contract. Assumes nothing.
 use borrow.Author.Needs.{needs}
-use Rattle.combinations.specs.Successor.{withC}
+use Rattle.combinations.proofs.Steps.{with-c-is}
 use Rattle.combinations.proofs.with_c.Statement.{statement}
 use Rattle.combinations.proofs.with_c.Tie as tie
 
@@ -29,8 +29,7 @@ less-requires-2 : tie.Need-less-requires-2
 less-requires-2 c κs = search needs
 
 returns : tie.Need-returns
-unfolding withC
-returns c = cc
+returns c = let a = c .before .before .before .args in with-c-is (a .n) (a .s) (a .a) (a .b) (a .c) (c .before .before .less .ensures) (c .before .larger .ensures) (c .less2 .ensures)
 
 pub with-c-spec : {M : Type 1} → statement M
 with-c-spec =

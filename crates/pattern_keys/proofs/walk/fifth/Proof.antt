@@ -1,12 +1,12 @@
-use Prim.Native.Nat.{_+_, _-_, _≤_, _<_}
-use mathlib.Core.Path.{_≡_, ap}
+use Prim.Native.Nat.{_+_, _-_, _≤_, zero-le}
+use mathlib.Core.Path.{_≡_}
 use borrow.Author.Needs.{needs}
-use native.Mathlib.Omega.{arith}
-use lib.ListN.{length, getD}
+use native.Mathlib.Nat.{le-trans, le-antisymm}
+use lib.ListN.{getD}
 use Rattle.key_list.specs.Keys.{run}
-use Rattle.key_list.proofs.Lists.{run-length}
 use Rattle.pattern_keys.specs.Walk.{Walked}
 use Rattle.pattern_keys.proofs.Walks.{walked-none, last-turn, parts-set, value-in, fifth-is}
+use Rattle.pattern_keys.proofs.Turns.{value-fits, next-fits, one-more, fewer, last-room, place-fits, next-place-fits, first-place, next-place}
 use Rattle.pattern_keys.proofs.walk.fifth.Statement.{statement}
 use Rattle.pattern_keys.proofs.walk.fifth.Tie as tie
 
@@ -29,20 +29,17 @@ array-read-values : tie.Need-array-read-values Inv-loop μ-loop
 array-read-values c = search needs
 
 values-requires : tie.Need-values-requires Inv-loop μ-loop
-values-requires c κs = omega (arith, c .before .pre .1 .fifth, c .before .pre .1 .few)
+values-requires c κs = le-trans (c .before .pre .1 .fifth) (c .before .pre .1 .few)
 
 loop-holds : tie.Need-loop-holds Inv-loop μ-loop
 unfolding run
-loop-holds c = (omega arith, omega arith, walked-none (c .before .before .args .c) (c .before .before .args .bins) (c .before .before .args .hashes .now) (c .before .before .args .dist .now) (c .before .before .args .m) (c .before .before .pre .4) (c .before .before .pre .5))
+loop-holds c = (zero-le, first-place (c .before .before .args .m), walked-none (c .before .before .args .c) (c .before .before .args .bins) (c .before .before .args .hashes .now) (c .before .before .args .dist .now) (c .before .before .args .m) (c .before .before .pre .4) (c .before .before .pre .5))
 
 add-x : tie.Need-add-x Inv-loop μ-loop
 add-x c =
     let l = c .before .loop in
-    let v = c .before .before .values .ensures in
-    let g = c .before .before .before .larger .ensures in
     let b = c .before .before .before .before in
-    let x = value-in (c .before .before .before .larger .result) (l .i) (c .before .before .values .result) (getD (b .args .t4) 4 0) (b .args .bins) (c .loop-test .taken) v (b .pre .1 .fifth) in
-    omega (arith, b .pre .1 .few)
+    value-fits (c .before .before .before .larger .result) (l .i) (c .before .before .values .result) (getD (b .args .t4) 4 0) (b .args .bins) (c .loop-test .taken) (c .before .before .values .ensures) (b .pre .1 .fifth) (b .pre .1 .few)
 
 array-write-x : tie.Need-array-write-x Inv-loop μ-loop
 array-write-x c = search needs
@@ -50,105 +47,66 @@ array-write-x c = search needs
 compute-pattern-key-hash-requires : tie.Need-compute-pattern-key-hash-requires Inv-loop μ-loop
 compute-pattern-key-hash-requires c κs =
     let l = c .before .loop in
-    let v = c .before .before .values .ensures in
-    let g = c .before .before .before .larger .ensures in
     let b = c .before .before .before .before in
-    let x = value-in (c .before .before .before .larger .result) (l .i) (c .before .before .values .result) (getD (b .args .t4) 4 0) (b .args .bins) (c .loop-test .taken) v (b .pre .1 .fifth) in
-    parts-set (b .args .t1) (b .args .bins) 4 (c .before .before .before .larger .result + l .i) x (b .pre .2)
+    parts-set (b .args .t1) (b .args .bins) 4 (c .before .before .before .larger .result + l .i) (value-in (c .before .before .before .larger .result) (l .i) (c .before .before .values .result) (getD (b .args .t4) 4 0) (b .args .bins) (c .loop-test .taken) (c .before .before .values .ensures) (b .pre .1 .fifth)) (b .pre .2)
 
 mul-hashes : tie.Need-mul-hashes Inv-loop μ-loop
 mul-hashes c =
     let l = c .before .before .loop in
-    let v = c .before .before .before .values .ensures in
-    let g = c .before .before .before .before .larger .ensures in
     let b = c .before .before .before .before .before in
-    let x = value-in (c .before .before .before .before .larger .result) (l .i) (c .before .before .before .values .result) (getD (b .args .t4) 4 0) (b .args .bins) (c .before .loop-test .taken) v (b .pre .1 .fifth) in
-    let w = fifth-is (b .args .t3) (b .args .t4) (b .args .t1) (c .before .before .before .before .larger .result) (c .before .before .before .values .result) g v in
-    let r : l .at < 1024 = omega (arith, b .pre .3, ap length w, run-length 4 (c .before .before .before .before .larger .result) (c .before .before .before .values .result) (b .args .t1), l .inv .1, c .before .loop-test .taken) in
-    omega arith
+    place-fits (l .at) (last-room (b .args .t3) (b .args .t4) (b .args .t1) (c .before .before .before .before .larger .result) (c .before .before .before .values .result) (l .i) (b .args .m) (l .at) (c .before .before .before .before .larger .ensures) (c .before .before .before .values .ensures) (b .pre .3) (l .inv .1) (c .before .loop-test .taken))
 
 element-write-hashes : tie.Need-element-write-hashes Inv-loop μ-loop
 element-write-hashes c =
     let l = c .before .before .loop in
-    let v = c .before .before .before .values .ensures in
-    let g = c .before .before .before .before .larger .ensures in
     let b = c .before .before .before .before .before in
-    let x = value-in (c .before .before .before .before .larger .result) (l .i) (c .before .before .before .values .result) (getD (b .args .t4) 4 0) (b .args .bins) (c .before .loop-test .taken) v (b .pre .1 .fifth) in
-    let w = fifth-is (b .args .t3) (b .args .t4) (b .args .t1) (c .before .before .before .before .larger .result) (c .before .before .before .values .result) g v in
-    let r : l .at < 1024 = omega (arith, b .pre .3, ap length w, run-length 4 (c .before .before .before .before .larger .result) (c .before .before .before .values .result) (b .args .t1), l .inv .1, c .before .loop-test .taken) in
-    r
+    last-room (b .args .t3) (b .args .t4) (b .args .t1) (c .before .before .before .before .larger .result) (c .before .before .before .values .result) (l .i) (b .args .m) (l .at) (c .before .before .before .before .larger .ensures) (c .before .before .before .values .ensures) (b .pre .3) (l .inv .1) (c .before .loop-test .taken)
 
 far-requires : tie.Need-far-requires Inv-loop μ-loop
 far-requires c κs =
     let l = c .before .before .loop in
-    let v = c .before .before .before .values .ensures in
-    let g = c .before .before .before .before .larger .ensures in
     let b = c .before .before .before .before .before in
-    let x = value-in (c .before .before .before .before .larger .result) (l .i) (c .before .before .before .values .result) (getD (b .args .t4) 4 0) (b .args .bins) (c .before .loop-test .taken) v (b .pre .1 .fifth) in
-    (b .pre .0, parts-set (b .args .t1) (b .args .bins) 4 (c .before .before .before .before .larger .result + l .i) x (b .pre .2))
+    (b .pre .0, parts-set (b .args .t1) (b .args .bins) 4 (c .before .before .before .before .larger .result + l .i) (value-in (c .before .before .before .before .larger .result) (l .i) (c .before .before .before .values .result) (getD (b .args .t4) 4 0) (b .args .bins) (c .before .loop-test .taken) (c .before .before .before .values .ensures) (b .pre .1 .fifth)) (b .pre .2))
 
 mul-dist : tie.Need-mul-dist Inv-loop μ-loop
 mul-dist c =
     let l = c .before .before .before .loop in
-    let v = c .before .before .before .before .values .ensures in
-    let g = c .before .before .before .before .before .larger .ensures in
     let b = c .before .before .before .before .before .before in
-    let x = value-in (c .before .before .before .before .before .larger .result) (l .i) (c .before .before .before .before .values .result) (getD (b .args .t4) 4 0) (b .args .bins) (c .before .before .loop-test .taken) v (b .pre .1 .fifth) in
-    let w = fifth-is (b .args .t3) (b .args .t4) (b .args .t1) (c .before .before .before .before .before .larger .result) (c .before .before .before .before .values .result) g v in
-    let r : l .at < 1024 = omega (arith, b .pre .3, ap length w, run-length 4 (c .before .before .before .before .before .larger .result) (c .before .before .before .before .values .result) (b .args .t1), l .inv .1, c .before .before .loop-test .taken) in
-    omega arith
+    place-fits (l .at) (last-room (b .args .t3) (b .args .t4) (b .args .t1) (c .before .before .before .before .before .larger .result) (c .before .before .before .before .values .result) (l .i) (b .args .m) (l .at) (c .before .before .before .before .before .larger .ensures) (c .before .before .before .before .values .ensures) (b .pre .3) (l .inv .1) (c .before .before .loop-test .taken))
 
 element-write-dist : tie.Need-element-write-dist Inv-loop μ-loop
 element-write-dist c =
     let l = c .before .before .before .loop in
-    let v = c .before .before .before .before .values .ensures in
-    let g = c .before .before .before .before .before .larger .ensures in
     let b = c .before .before .before .before .before .before in
-    let x = value-in (c .before .before .before .before .before .larger .result) (l .i) (c .before .before .before .before .values .result) (getD (b .args .t4) 4 0) (b .args .bins) (c .before .before .loop-test .taken) v (b .pre .1 .fifth) in
-    let w = fifth-is (b .args .t3) (b .args .t4) (b .args .t1) (c .before .before .before .before .before .larger .result) (c .before .before .before .before .values .result) g v in
-    let r : l .at < 1024 = omega (arith, b .pre .3, ap length w, run-length 4 (c .before .before .before .before .before .larger .result) (c .before .before .before .before .values .result) (b .args .t1), l .inv .1, c .before .before .loop-test .taken) in
-    r
+    last-room (b .args .t3) (b .args .t4) (b .args .t1) (c .before .before .before .before .before .larger .result) (c .before .before .before .before .values .result) (l .i) (b .args .m) (l .at) (c .before .before .before .before .before .larger .ensures) (c .before .before .before .before .values .ensures) (b .pre .3) (l .inv .1) (c .before .before .loop-test .taken)
 
 add-at : tie.Need-add-at Inv-loop μ-loop
 add-at c =
     let l = c .before .before .before .loop in
-    let v = c .before .before .before .before .values .ensures in
-    let g = c .before .before .before .before .before .larger .ensures in
     let b = c .before .before .before .before .before .before in
-    let x = value-in (c .before .before .before .before .before .larger .result) (l .i) (c .before .before .before .before .values .result) (getD (b .args .t4) 4 0) (b .args .bins) (c .before .before .loop-test .taken) v (b .pre .1 .fifth) in
-    let w = fifth-is (b .args .t3) (b .args .t4) (b .args .t1) (c .before .before .before .before .before .larger .result) (c .before .before .before .before .values .result) g v in
-    let r : l .at < 1024 = omega (arith, b .pre .3, ap length w, run-length 4 (c .before .before .before .before .before .larger .result) (c .before .before .before .before .values .result) (b .args .t1), l .inv .1, c .before .before .loop-test .taken) in
-    omega arith
+    next-place-fits (l .at) (last-room (b .args .t3) (b .args .t4) (b .args .t1) (c .before .before .before .before .before .larger .result) (c .before .before .before .before .values .result) (l .i) (b .args .m) (l .at) (c .before .before .before .before .before .larger .ensures) (c .before .before .before .before .values .ensures) (b .pre .3) (l .inv .1) (c .before .before .loop-test .taken))
 
 add-i : tie.Need-add-i Inv-loop μ-loop
 add-i c =
     let l = c .before .before .before .loop in
-    let v = c .before .before .before .before .values .ensures in
-    let g = c .before .before .before .before .before .larger .ensures in
     let b = c .before .before .before .before .before .before in
-    let x = value-in (c .before .before .before .before .before .larger .result) (l .i) (c .before .before .before .before .values .result) (getD (b .args .t4) 4 0) (b .args .bins) (c .before .before .loop-test .taken) v (b .pre .1 .fifth) in
-    omega (arith, b .pre .1 .few)
+    next-fits (c .before .before .before .before .before .larger .result) (l .i) (c .before .before .before .before .values .result) (getD (b .args .t4) 4 0) (b .args .bins) (c .before .before .loop-test .taken) (c .before .before .before .before .values .ensures) (b .pre .1 .fifth) (b .pre .1 .few)
 
 loop-less : tie.Need-loop-less Inv-loop μ-loop
-loop-less c = search needs
+loop-less c = fewer (c .before .before .before .loop .i) (c .before .before .before .before .values .result) (c .before .before .loop-test .taken)
 
 loop-again : tie.Need-loop-again Inv-loop μ-loop
 loop-again c =
     let l = c .before .before .before .loop in
-    let v = c .before .before .before .before .values .ensures in
-    let g = c .before .before .before .before .before .larger .ensures in
     let b = c .before .before .before .before .before .before in
-    let x = value-in (c .before .before .before .before .before .larger .result) (l .i) (c .before .before .before .before .values .result) (getD (b .args .t4) 4 0) (b .args .bins) (c .before .before .loop-test .taken) v (b .pre .1 .fifth) in
-    let w = fifth-is (b .args .t3) (b .args .t4) (b .args .t1) (c .before .before .before .before .before .larger .result) (c .before .before .before .before .values .result) g v in
-    let r : l .at < 1024 = omega (arith, b .pre .3, ap length w, run-length 4 (c .before .before .before .before .before .larger .result) (c .before .before .before .before .values .result) (b .args .t1), l .inv .1, c .before .before .loop-test .taken) in
-    let t = last-turn (b .args .c) (b .args .bins) 4 (c .before .before .before .before .before .larger .result) (l .i) (b .args .t1) (b .args .hashes .now) (b .args .dist .now) (l .hashes) (l .dist) (b .args .m) (l .at) (c .before .compute-pattern-key-hash .result) (c .far .result) r (c .before .compute-pattern-key-hash .ensures) (c .far .ensures) (l .inv .2) in
-    (omega arith, omega arith, t)
+    let t = last-turn (b .args .c) (b .args .bins) 4 (c .before .before .before .before .before .larger .result) (l .i) (b .args .t1) (b .args .hashes .now) (b .args .dist .now) (l .hashes) (l .dist) (b .args .m) (l .at) (c .before .compute-pattern-key-hash .result) (c .far .result) (last-room (b .args .t3) (b .args .t4) (b .args .t1) (c .before .before .before .before .before .larger .result) (c .before .before .before .before .values .result) (l .i) (b .args .m) (l .at) (c .before .before .before .before .before .larger .ensures) (c .before .before .before .before .values .ensures) (b .pre .3) (l .inv .1) (c .before .before .loop-test .taken)) (c .before .compute-pattern-key-hash .ensures) (c .far .ensures) (l .inv .2) in
+    (one-more (l .i) (c .before .before .before .before .values .result) (c .before .before .loop-test .taken), next-place (l .at) (b .args .m) (l .i) (l .inv .1), t)
 
 returns : tie.Need-returns Inv-loop μ-loop
 returns c =
     let l = c .before .loop in
     let b = c .before .before .before .before in
-    let e : l .i ≡ c .before .before .values .result = omega arith in
+    let e : l .i ≡ c .before .before .values .result = le-antisymm (l .inv .0) (c .loop-test .left) in
     let w = fifth-is (b .args .t3) (b .args .t4) (b .args .t1) (c .before .before .before .larger .result) (c .before .before .values .result) (c .before .before .before .larger .ensures) (c .before .before .values .ensures) in
     rw (e, w) at (l .inv .2)
 

@@ -1,11 +1,12 @@
-use Prim.Native.Nat.{_+_, _-_, _≤_}
-use mathlib.Core.Path.{_≡_, ap}
+use Prim.Native.Nat.{_+_, _-_, _≤_, zero-le}
+use mathlib.Core.Path.{_≡_}
 use borrow.Author.Needs.{needs}
-use native.Mathlib.Omega.{arith}
+use native.Mathlib.Nat.{le-trans, le-antisymm}
 use lib.ListN.{length, getD}
 use Rattle.key_list.specs.Keys.{flat, run}
 use Rattle.pattern_keys.specs.Walk.{third, Walked}
 use Rattle.pattern_keys.proofs.Walks.{walked-none, walk-turn, walk-room, parts-set, value-in, second-is}
+use Rattle.pattern_keys.proofs.Turns.{value-fits, next-fits, one-more, fewer, room-of}
 use Rattle.pattern_keys.proofs.walk.second.Statement.{statement}
 use Rattle.pattern_keys.proofs.walk.second.Tie as tie
 
@@ -28,21 +29,17 @@ array-read-values : tie.Need-array-read-values Inv-loop μ-loop
 array-read-values c = search needs
 
 values-requires : tie.Need-values-requires Inv-loop μ-loop
-values-requires c κs = omega (arith, c .before .pre .1 .second, c .before .pre .1 .few)
+values-requires c κs = le-trans (c .before .pre .1 .second) (c .before .pre .1 .few)
 
 loop-holds : tie.Need-loop-holds Inv-loop μ-loop
 unfolding flat run
-loop-holds c = (omega arith, walked-none (c .before .before .args .c) (c .before .before .args .bins) (c .before .before .args .hashes .now) (c .before .before .args .dist .now) (c .before .before .args .m) (c .before .before .pre .4) (c .before .before .pre .5))
+loop-holds c = (zero-le, walked-none (c .before .before .args .c) (c .before .before .args .bins) (c .before .before .args .hashes .now) (c .before .before .args .dist .now) (c .before .before .args .m) (c .before .before .pre .4) (c .before .before .pre .5))
 
 add-x : tie.Need-add-x Inv-loop μ-loop
 add-x c =
     let l = c .before .loop in
-    let v = c .before .before .values .ensures in
     let b = c .before .before .before .before in
-    let a = c .before .before .before .larger .result in
-    let t = c .loop-test .taken in
-    let x = value-in a (l .i) (c .before .before .values .result) (getD (b .args .t4) 1 0) (b .args .bins) t v (b .pre .1 .second) in
-    omega (arith, b .pre .1 .few)
+    value-fits (c .before .before .before .larger .result) (l .i) (c .before .before .values .result) (getD (b .args .t4) 1 0) (b .args .bins) (c .loop-test .taken) (c .before .before .values .ensures) (b .pre .1 .second) (b .pre .1 .few)
 
 array-write-x : tie.Need-array-write-x Inv-loop μ-loop
 array-write-x c = search needs
@@ -56,38 +53,32 @@ third-requires c κs =
     let t = c .before .before .loop-test .taken in
     let x = value-in a (l .i) (c .before .before .before .before .values .result) (getD (b .args .t4) 1 0) (b .args .bins) t v (b .pre .1 .second) in
     let w = second-is (b .args .t3) (b .args .t4) (b .args .t1) a (c .before .before .before .before .values .result) (c .before .before .before .before .before .larger .ensures) v in
-    let r = walk-room (third (b .args .t3) (b .args .t4)) 1 a (l .i) (c .before .before .before .before .values .result) (b .args .t1) (b .args .m) (l .at) t (l .inv .1 .count) (omega (arith, b .pre .3, ap length w)) in
+    let r = walk-room (third (b .args .t3) (b .args .t4)) 1 a (l .i) (c .before .before .before .before .values .result) (b .args .t1) (b .args .m) (l .at) t (l .inv .1 .count) (room-of (b .args .m) _ _ w (b .pre .3)) in
     (b .pre .0, b .pre .1, parts-set (b .args .t1) (b .args .bins) 1 (a + l .i) x (b .pre .2), r, l .inv .1 .wide, l .inv .1 .long)
 
 add-i : tie.Need-add-i Inv-loop μ-loop
 add-i c =
     let l = c .before .before .before .before .loop in
-    let v = c .before .before .before .before .before .values .ensures in
     let b = c .before .before .before .before .before .before .before in
-    let a = c .before .before .before .before .before .before .larger .result in
-    let t = c .before .before .before .loop-test .taken in
-    let x = value-in a (l .i) (c .before .before .before .before .before .values .result) (getD (b .args .t4) 1 0) (b .args .bins) t v (b .pre .1 .second) in
-    omega (arith, b .pre .1 .few)
+    next-fits (c .before .before .before .before .before .before .larger .result) (l .i) (c .before .before .before .before .before .values .result) (getD (b .args .t4) 1 0) (b .args .bins) (c .before .before .before .loop-test .taken) (c .before .before .before .before .before .values .ensures) (b .pre .1 .second) (b .pre .1 .few)
 
 loop-less : tie.Need-loop-less Inv-loop μ-loop
-loop-less c = search needs
+loop-less c = fewer (c .before .before .before .before .loop .i) (c .before .before .before .before .before .values .result) (c .before .before .before .loop-test .taken)
 
 loop-again : tie.Need-loop-again Inv-loop μ-loop
 loop-again c =
     let l = c .before .before .before .before .loop in
-    let v = c .before .before .before .before .before .values .ensures in
     let b = c .before .before .before .before .before .before .before in
     let a = c .before .before .before .before .before .before .larger .result in
     let t = c .before .before .before .loop-test .taken in
-    let x = value-in a (l .i) (c .before .before .before .before .before .values .result) (getD (b .args .t4) 1 0) (b .args .bins) t v (b .pre .1 .second) in
     let y = c .third .last in
-    (omega arith, walk-turn (b .args .c) (b .args .bins) (third (b .args .t3) (b .args .t4)) 1 a (l .i) (b .args .t1) (b .args .hashes .now) (b .args .dist .now) (l .hashes) (l .dist) (y .1 .1 .1 .1 .1 .0) (y .1 .1 .1 .1 .1 .1 .0) (b .args .m) (l .at) (c .third .result) (l .inv .1) (c .third .ensures))
+    (one-more (l .i) (c .before .before .before .before .before .values .result) t, walk-turn (b .args .c) (b .args .bins) (third (b .args .t3) (b .args .t4)) 1 a (l .i) (b .args .t1) (b .args .hashes .now) (b .args .dist .now) (l .hashes) (l .dist) (y .1 .1 .1 .1 .1 .0) (y .1 .1 .1 .1 .1 .1 .0) (b .args .m) (l .at) (c .third .result) (l .inv .1) (c .third .ensures))
 
 returns : tie.Need-returns Inv-loop μ-loop
 returns c =
     let l = c .before .loop in
     let b = c .before .before .before .before in
-    let e : l .i ≡ c .before .before .values .result = omega arith in
+    let e : l .i ≡ c .before .before .values .result = le-antisymm (l .inv .0) (c .loop-test .left) in
     let w = second-is (b .args .t3) (b .args .t4) (b .args .t1) (c .before .before .before .larger .result) (c .before .before .values .result) (c .before .before .before .larger .ensures) (c .before .before .values .ensures) in
     rw (e, w) at (l .inv .1)
 

@@ -1,0 +1,3 @@
+pub mod Image
+pub mod Cuts
+pub mod Two
