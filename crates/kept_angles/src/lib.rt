@@ -61,6 +61,7 @@ fn kept_at(measures: &[f32; 2208], i: u32, j: u32) -> f32
 // Whether six angles that were looked up are all worked out.
 fn all_known(v: [f32; 6]) -> bool
     ensures { λ r. ⌜ (r ≡ true → (k : ℕ) → k < 6 → lt (getD v k nan) zero32 ≡ false) ⌝ }
+    ensures { λ r. ⌜ (r ≡ false → (k : ℕ) × ((k < 6) × (lt (getD v k nan) zero32 ≡ true))) ⌝ }
 {
     let mut i = 0;
     while i < 6 {

@@ -27,7 +27,8 @@ array-read-if1 : tie.Need-array-read-if1 Inv-loop μ-loop
 array-read-if1 c = search needs
 
 returns : tie.Need-returns Inv-loop μ-loop
-returns c h = absurd (let z : _≡_ {A = ℕ} 0 1 = cc (h) in omega arith)
+unfolding ofBits
+returns c = (λ h. absurd (let z : _≡_ {A = ℕ} 0 1 = cc (h) in omega arith), λ h. (c .before .before .loop .i, (c .before .loop-test .taken, c .if1 .taken)))
 
 add-i : tie.Need-add-i Inv-loop μ-loop
 add-i c = omega arith
@@ -47,7 +48,7 @@ loop-again c =
     )
 
 returns-2 : tie.Need-returns-2 Inv-loop μ-loop
-returns-2 c h k p = c .before .loop .inv .1 k (omega arith)
+returns-2 c = (λ h k p. c .before .loop .inv .1 k (omega arith), λ h. absurd (let z : _≡_ {A = ℕ} 0 1 = cc (h) in omega arith))
 
 pub all-known-spec : {M : Type 1} → statement M
 all-known-spec = tie.close (tie.spec Inv-loop μ-loop loop-holds mul-if1 array-read-if1 returns add-i loop-less loop-again returns-2)

@@ -12,7 +12,7 @@ all-known-requires c κs = search needs
 returns : tie.Need-returns
 returns c =
     let b = c .before .before .before .before in
-    (six-right (b .args .measures .now) (b .args .q) (b .pre .0) (b .pre .1) _ (c .before .before .six-kept .ensures) (c .before .all-known .ensures (c .if1 .taken)), still-same _ (b .pre .2))
+    (six-right (b .args .measures .now) (b .args .q) (b .pre .0) (b .pre .1) _ (c .before .before .six-kept .ensures) (c .before .all-known .ensures .0 (c .if1 .taken)), still-same _ (b .pre .2))
 
 six-asked-requires : tie.Need-six-asked-requires
 six-asked-requires c κs = search needs
