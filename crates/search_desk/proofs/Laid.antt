@@ -2,15 +2,12 @@
 use mathlib.Core.Path.{_≡_, sym, _∙_, ap, subst}
 use Prim.Native.Nat.{ℕ, _+_, _/_, _≤_, _<_}
 use native.Mathlib.Omega.{arith}
-use mir.Syntax.{w32}
-use mir.Val.{Fits}
 use mathlib.Core.List.{List}
 use lib.ListN.{length}
 use lib.Ieee.{Float}
 use Rattle.combinations.specs.declared.Four.{Four}
 use Rattle.combinations.specs.Fours.{Rising}
 use Rattle.pattern.specs.Directions.{Directions}
-use Rattle.passes.proofs.Laws.{passes-fitting}
 use Rattle.kept_angles.specs.Measures.{fourAt, Still}
 use Rattle.search_feed.specs.Data.{Frame}
 use Rattle.search_feed.specs.Image.{keysIn, imageAt, directionsOf}
@@ -104,9 +101,6 @@ laid-four F i q h hashes o e =
 pub four-at : (F : Frame) (i j : ℕ) (q : Four) (h : Held) (hashes : List ℕ) → j ≡ i → ForFour F j q h hashes → ForFour F i q h hashes
 four-at F i j q h hashes e o = subst (λ k. ForFour F k q h hashes) e o
 
--- past question 5 the number after a pass's is small
-pub next-pass-fits : (F : Frame) (i : ℕ) (h : Held) (places : List ℕ) (measures : List Float) → Asked5 F → ForPass F i h places measures → Fits w32 (i + 1)
-next-pass-fits F i h places measures a p = omega (arith, p .inside, passes-fitting (F .passes) (a .five) .few)
-
+-- the number after a pass's is at most how many there are
 pub next-pass-inside : (F : Frame) (i : ℕ) (h : Held) (places : List ℕ) (measures : List Float) → ForPass F i h places measures → i + 1 ≤ length (F .passes) / 3
 next-pass-inside F i h places measures p = omega (arith, p .inside)

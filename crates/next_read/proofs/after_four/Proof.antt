@@ -1,5 +1,7 @@
 use mathlib.Core.Path.{sym, _∙_}
-use Rattle.search_desk.proofs.Laid.{laid-pass, next-pass-fits, next-pass-inside}
+use native.Mathlib.Omega.{arith}
+use Rattle.passes.proofs.Laws.{passes-fitting}
+use Rattle.search_desk.proofs.Laid.{laid-pass, next-pass-inside}
 use Rattle.next_read.proofs.Desks.{kept-same}
 use Rattle.next_read.proofs.Following.{four-follows, four-ends}
 use borrow.Author.Needs.{needs}
@@ -19,7 +21,9 @@ enum-told : tie.Need-enum-told
 enum-told c = search needs
 
 add-to-pass : tie.Need-add-to-pass
-add-to-pass c = next-pass-fits _ _ _ _ _ (c .before .before .before .before .before .before .before .before .pre .0) (c .before .before .before .before .before .before .before .before .pre .1 .laid)
+add-to-pass c =
+    let b = c .before .before .before .before .before .before .before .before in
+    record { fits = omega (arith, b .pre .1 .laid .inside, passes-fitting (b .args .passes .now) (b .pre .0 .five) .few) }
 
 to-pass-requires : tie.Need-to-pass-requires
 to-pass-requires c κs = (c .before .before .before .before .before .before .before .before .before .before .pre .0, laid-pass _ _ _ _ _ (c .before .before .before .before .before .before .before .before .before .before .pre .1 .laid), next-pass-inside _ _ _ _ _ (c .before .before .before .before .before .before .before .before .before .before .pre .1 .laid))
