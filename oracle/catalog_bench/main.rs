@@ -1,6 +1,6 @@
 // The proved catalogue beside a plain reading of document 01 on sound and damaged tables, and the opening check's speed beside a plain pass over
 // the same memory. From the repository's root:
-//   rt staticlib catalog_c && rustc --edition 2021 -O -L native=target/staticlib -o target/catalog_bench oracle/catalog_bench/main.rs && target/catalog_bench
+//   rt staticlib star_search && rt staticlib catalog_c && rustc --edition 2021 -O -L native=target/staticlib -o target/catalog_bench oracle/catalog_bench/main.rs && target/catalog_bench
 use std::collections::BTreeMap;
 use std::hint::black_box;
 use std::time::Instant;
@@ -12,11 +12,29 @@ struct RawEntry {
     mark: u32,
 }
 
+// A slot read's answer (0 filled, 1 empty, 2 refused) with the refusing question's number.
+#[repr(C)]
+struct Slot {
+    answer: u32,
+    number: u32,
+}
+
+// The part of the section that a slot read hands back.
+#[repr(C)]
+struct Part {
+    offset: u64,
+    length: u64,
+}
+
+#[link(name = "star_search", kind = "static")]
+extern "C" {
+    fn star_open(slots: u64, w: *const u64, wn: usize, p: *const u8, pn: usize, s: *const f32, sn: usize) -> u32;
+    fn star_slot(slots: u64, w: *const u64, wn: usize, p: *const u8, pn: usize, slot: u64) -> Slot;
+    fn star_entry(slots: u64, w: *const u64, wn: usize, p: *const u8, pn: usize, slot: u64) -> Part;
+}
+
 #[link(name = "catalog_c", kind = "static")]
 extern "C" {
-    fn catalog_open(slots: u64, w: *const u64, wn: usize, p: *const u8, pn: usize, s: *const f32, sn: usize) -> u32;
-    fn catalog_find(slots: u64, w: *const u64, wn: usize, p: *const u8, pn: usize, slot: u64) -> u64;
-    fn catalog_part(slots: u64, w: *const u64, wn: usize, p: *const u8, pn: usize, slot: u64) -> u64;
     fn catalog_entry(slots: u64, w: *const u64, wn: usize, p: *const u8, pn: usize, slot: u64) -> RawEntry;
 }
 
@@ -175,15 +193,20 @@ impl Table {
     // The proved code.
     fn proved_open(&self) -> u32 {
         let t = self;
-        unsafe { catalog_open(t.slots, t.words.as_ptr(), t.words.len(), t.packed.as_ptr(), t.packed.len(), t.stars.as_ptr(), t.stars.len()) }
+        unsafe { star_open(t.slots, t.words.as_ptr(), t.words.len(), t.packed.as_ptr(), t.packed.len(), t.stars.as_ptr(), t.stars.len()) }
     }
     fn proved_find(&self, slot: u64) -> u64 {
         let t = self;
-        unsafe { catalog_find(t.slots, t.words.as_ptr(), t.words.len(), t.packed.as_ptr(), t.packed.len(), slot) }
+        let s = unsafe { star_slot(t.slots, t.words.as_ptr(), t.words.len(), t.packed.as_ptr(), t.packed.len(), slot) };
+        match s.answer {
+            0 => self.proved_part(slot).offset / 22,
+            1 => EMPTY,
+            _ => REFUSED + s.number as u64,
+        }
     }
-    fn proved_part(&self, slot: u64) -> u64 {
+    fn proved_part(&self, slot: u64) -> Part {
         let t = self;
-        unsafe { catalog_part(t.slots, t.words.as_ptr(), t.words.len(), t.packed.as_ptr(), t.packed.len(), slot) }
+        unsafe { star_entry(t.slots, t.words.as_ptr(), t.words.len(), t.packed.as_ptr(), t.packed.len(), slot) }
     }
     fn proved_entry(&self, slot: u64) -> RawEntry {
         let t = self;
@@ -249,8 +272,9 @@ fn compare(r: &mut Rng) {
             let found = t.find(slot);
             assert_eq!(t.proved_find(slot), found, "round {round}, slot {slot}");
             let e = t.proved_entry(slot);
+            let part = t.proved_part(slot);
             if found < EMPTY {
-                assert_eq!(t.proved_part(slot), 22);
+                assert_eq!((part.offset, part.length), (found * 22, 22));
                 let b = &t.packed[found as usize * 22..found as usize * 22 + 22];
                 for k in 0..4 {
                     assert_eq!(e.star[k], u32::from_le_bytes(b[k * 4..k * 4 + 4].try_into().unwrap()));
@@ -259,7 +283,7 @@ fn compare(r: &mut Rng) {
                 assert!(x.to_bits() == e.edge.to_bits() || x.is_nan() && e.edge.is_nan());
                 assert_eq!(e.mark, u16::from_le_bytes([b[20], b[21]]) as u32);
             } else {
-                assert_eq!(t.proved_part(slot), 0);
+                assert_eq!((part.offset, part.length), (0, 0));
                 assert_eq!((e.star, e.edge, e.mark), ([0; 4], 0.0, 0));
             }
             reads += 1;
@@ -271,7 +295,7 @@ fn compare(r: &mut Rng) {
 fn time_reads(t: &Table) {
     let n = 4_000_000u64;
     let slots = black_box(t.slots);
-    let proved = best(|| (0..n).fold(0u64, |a, i| a.wrapping_add(t.proved_find((i * 2654435761) % slots))));
+    let proved = best(|| (0..n).fold(0u64, |a, i| a.wrapping_add(t.proved_part((i * 2654435761) % slots).offset)));
     let source = best(|| (0..n).fold(0u64, |a, i| a.wrapping_add(t.source_get((i * 2654435761) % slots))));
     println!("slot reads in {} slots: proved, with questions 6, 11 and 9, {:.1} ns; the source's {:.1} ns", slots, proved * 1e9 / n as f64, source * 1e9 / n as f64);
 }

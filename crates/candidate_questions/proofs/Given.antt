@@ -7,7 +7,7 @@ use borrow.Author.Tests.{ltb-true}
 use lib.Dec.{ltb}
 use lib.ListN.{length, getD}
 use lib.Ieee.{Float}
-use Rattle.passes.specs.Passes.{scaleFits}
+use Rattle.pass_limits.specs.Limits.{scaleFits}
 pub use Rattle.star_slice.proofs.Every.{both}
 use Rattle.star_slice.specs.declared.StarIndex.{StarIndex}
 use Rattle.star_slice.specs.Stars.{starSound}

@@ -6,7 +6,7 @@ use lib.Dec.{ltb}
 use lib.ListN.{length, getD}
 use lib.Ieee.{Float}
 use Rattle.brightness_list.specs.declared.Place.{Place}
-use Rattle.passes.specs.Passes.{scaleFits}
+use Rattle.pass_limits.specs.Limits.{scaleFits}
 use Rattle.star_slice.specs.declared.StarIndex.{StarIndex}
 use Rattle.star_slice.specs.Stars.{starSound}
 use Rattle.star_directions.specs.Directions.{noStar}

@@ -37,7 +37,7 @@ pub fn candidate_fits(order: &[u32], passes: &[f32], candidate: Candidate, scale
     if !places_rise(places, order.len()) {
         return false;
     }
-    passes::scale_fits(scale)
+    pass_limits::scale_fits(scale)
 }
 
 // Question 9 for four stars.

@@ -2,7 +2,7 @@
 use mathlib.Core.Path.{_≡_, refl}
 use mathlib.Core.Bool.{true, false}
 use lib.Ieee.{Float, nan, inf, fin, ofBits, lt}
-use Rattle.passes.specs.Passes.{fieldFits}
+use Rattle.pass_limits.specs.Limits.{fieldFits}
 use Rattle.candidates.specs.Tests.{fieldSound}
 
 pub field-fits-sound : (x : Float) → fieldFits x ≡ fieldSound x

@@ -5,7 +5,7 @@ use mathlib.Core.Bool.{true, false}
 use mathlib.Core.List.{List}
 use borrow.Author.Tests.{eq-eqb, ne-eqb}
 use lib.Ieee.{Float}
-use Rattle.passes.specs.Passes.{fieldFits}
+use Rattle.pass_limits.specs.Limits.{fieldFits}
 use Rattle.pattern.specs.Edges.{edgesOf, ratiosOf}
 use Rattle.pattern_entry.specs.declared.PatternEntry.{PatternEntry}
 use Rattle.tolerance.specs.declared.Tolerance.{Tolerance}

@@ -62,7 +62,7 @@ pub fn test_entry(
     }
     let largest = angles[5];
     let measured = largest / edge * field;
-    if !passes::field_fits(measured) {
+    if !pass_limits::field_fits(measured) {
         return Tested::Over;
     }
     Tested::Hit(measured)

@@ -8,7 +8,7 @@ ghost use Rattle.float_order.specs.KeyPart.{partOf};
 fn key_part(r: f32, bins: u32) -> u32
     ensures { λ k. ⌜ k ≡ partOf r bins ⌝ }
 {
-    float::truncate(r * std::num::nearest_u32_to_f32(bins))
+    truncation::truncate(r * std::num::nearest_u32_to_f32(bins))
 }
 
 // The key of five ratios.
@@ -47,7 +47,7 @@ pub fn hash_to_index(hash: u64, slots: u64) -> u64
     requires { ⌜ 0 < slots ⌝ }
     ensures { λ r. ⌜ r ≡ homeOf hash slots ⌝ }
 {
-    float::wrapping_mul(hash, 2654435761) % slots
+    wrapping_product::wrapping_mul(hash, 2654435761) % slots
 }
 
 // The mark of a hash: its low 16 bits.

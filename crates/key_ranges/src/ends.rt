@@ -28,7 +28,7 @@ fn low(r: f32, e: f32, bins: u32, k: u32) -> u32
     if n == 0 {
         return 0;
     }
-    float::truncate(float_order::larger(x, 0.0))
+    truncation::truncate(float_order::larger(x, 0.0))
 }
 
 // The upper end of a part's range: the image's part k or the one after it, unless the range goes further up.
@@ -40,7 +40,7 @@ fn high(r: f32, e: f32, bins: u32, k: u32) -> u32
     let x = float_order::smaller((r + e) * b, b);
     let n = k + ((k + 1) as f32 <= x) as u32;
     if (n + 1) as f32 <= x {
-        return float::truncate(x);
+        return truncation::truncate(x);
     }
     n
 }

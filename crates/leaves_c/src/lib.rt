@@ -1,6 +1,5 @@
 // The leaves as C functions, so that a program outside can measure them: oracle/leaves.
 ghost use mathlib.Core.Path.{_≡_};
-ghost use mathlib.Core.List.{map};
 ghost use Prim.Native.Nat.{_*_, _%_, _^_};
 ghost use lib.Ieee.{toUnsigned};
 ghost use Rattle.square_root.specs.Root.{rootOf};
@@ -36,7 +35,7 @@ pub extern "C" fn magnitude_f32(x: f32) -> f32
 pub extern "C" fn truncate_f32(x: f32) -> u32
     ensures { λ r. ⌜ r ≡ toUnsigned 32 x ⌝ }
 {
-    float::truncate(x)
+    truncation::truncate(x)
 }
 
 // The product of a and b modulo 2^64.
@@ -44,29 +43,5 @@ pub extern "C" fn truncate_f32(x: f32) -> u32
 pub extern "C" fn wrapping_mul_u64(a: u64, b: u64) -> u64
     ensures { λ r. ⌜ r ≡ (a * b) % 2 ^ 64 ⌝ }
 {
-    float::wrapping_mul(a, b)
-}
-
-// Each value of the slice becomes its square root: the root without a call from outside for each.
-#[no_mangle]
-pub extern "C" fn sqrt_each(values: &mut [f32])
-    ensures { λ _. ⌜ now (values .exit) ≡ map rootOf (now (values .entry)) ⌝ }
-{
-    let mut i: usize = 0;
-    while i < values.len() {
-        values[i] = square_root::sqrt(values[i]);
-        i += 1;
-    }
-}
-
-// Each value of the slice becomes its arc.
-#[no_mangle]
-pub extern "C" fn arc_each(values: &mut [f32])
-    ensures { λ _. ⌜ now (values .exit) ≡ map arcOf (now (values .entry)) ⌝ }
-{
-    let mut i: usize = 0;
-    while i < values.len() {
-        values[i] = arc::arc(values[i]);
-        i += 1;
-    }
+    wrapping_product::wrapping_mul(a, b)
 }

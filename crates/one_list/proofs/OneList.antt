@@ -11,7 +11,8 @@ use Rattle.preprocess.specs.Questions.{centroidsFit, coordinateFits, coordinate
 use Rattle.brightness_list.specs.Order.{allBelow, among, noneTwice, orderFits}
 use Rattle.tolerance.specs.Tolerances.{toleranceOf}
 use Rattle.search_settings.specs.Limits.{narrowFits, settingsFit}
-use Rattle.passes.specs.Passes.{fieldFits, scaleFits, cosineFits, passFits, passAt, firstFit, passesFit}
+use Rattle.pass_limits.specs.Limits.{fieldFits, scaleFits, cosineFits}
+use Rattle.passes.specs.Passes.{passFits, passAt, firstFit, passesFit}
 use Rattle.table_blocks.specs.Blocks.{tableFits, bitAt, onesIn, place}
 use Rattle.star_slice.specs.Ask.{every}
 use Rattle.star_slice.specs.Stars.{starsFit, unit, starSound}

@@ -11,7 +11,8 @@ use lib.ListN.{length}
 use lib.Ieee.{Float}
 use borrow.Author.Tests.{leb-true, eq-eqb, ne-eqb, le-leb, lt-leb}
 use Rattle.float_order.proofs.Tests.{both}
-use Rattle.passes.specs.Passes.{fieldFits, scaleFits, cosineFits, passFits, passAt, firstFit, passesFit}
+use Rattle.pass_limits.specs.Limits.{fieldFits, scaleFits, cosineFits}
+use Rattle.passes.specs.Passes.{passFits, passAt, firstFit, passesFit}
 
 -- one that does not fit is among any more
 pub first-fails : (ps : List Float) (i n : ℕ) → firstFit ps i ≡ true → passFits (passAt ps i) ≡ false → i < n → false ≡ firstFit ps n

@@ -4,21 +4,9 @@ use mathlib.Core.Bool.{Bool, true, _&&_}
 use mathlib.Core.List.{List}
 use lib.Dec.{leb, eqb}
 use lib.ListN.{length, getD}
-use lib.Ieee.{Float, nan, binary32, ofBits, neg, le, lt}
-use Rattle.float_order.specs.Value.{zero32, one32, pi32}
+use lib.Ieee.{Float, nan}
+use Rattle.pass_limits.specs.Limits.{fieldFits, scaleFits, cosineFits}
 use Rattle.passes.specs.declared.Pass.{Pass}
-
--- a field of view "above 0 and below f32 pi"
-unfoldable pub fieldFits : Float → Bool
-fieldFits x = lt zero32 x && lt x pi32
-
--- a pixel scale "above 0 and at most 16"
-unfoldable pub scaleFits : Float → Bool
-scaleFits x = lt zero32 x && le x (ofBits binary32 0x4180_0000)
-
--- a cosine "from −1 to 1"
-unfoldable pub cosineFits : Float → Bool
-cosineFits x = le (neg one32) x && le x one32
 
 -- a pass that question 5 lets through
 unfoldable pub passFits : Pass → Bool

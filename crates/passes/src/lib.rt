@@ -2,7 +2,7 @@
 ghost use mathlib.Core.Path.{_≡_};
 ghost use Prim.Native.Nat.{_+_, _*_, _/_, _≤_, _<_};
 ghost use lib.ListN.{length};
-ghost use Rattle.passes.specs.Passes.{fieldFits, scaleFits, cosineFits, passFits, passAt, firstFit, passesFit};
+ghost use Rattle.passes.specs.Passes.{passFits, passAt, firstFit, passesFit};
 
 // One pass: its field of view in radians, its pixel scale and the cosine of its separation.
 pub struct Pass {
@@ -11,48 +11,18 @@ pub struct Pass {
     pub cosine: f32,
 }
 
-// Whether a field of view is above 0 and below f32 pi.
-pub fn field_fits(x: f32) -> bool
-    ensures { λ r. ⌜ r ≡ fieldFits x ⌝ }
-{
-    if 0.0 < x {
-        return x < 3.1415927;
-    }
-    false
-}
-
-// Whether a pixel scale is above 0 and at most 16.
-pub fn scale_fits(x: f32) -> bool
-    ensures { λ r. ⌜ r ≡ scaleFits x ⌝ }
-{
-    if 0.0 < x {
-        return x <= 16.0;
-    }
-    false
-}
-
-// Whether a cosine is from -1 to 1.
-fn cosine_fits(x: f32) -> bool
-    ensures { λ r. ⌜ r ≡ cosineFits x ⌝ }
-{
-    if -1.0 <= x {
-        return x <= 1.0;
-    }
-    false
-}
-
 impl Pass {
     // Whether the pass lies within question 5's limits.
     fn fits(self) -> bool
         ensures { λ r. ⌜ r ≡ passFits self ⌝ }
     {
-        if !field_fits(self.field) {
+        if !pass_limits::field_fits(self.field) {
             return false;
         }
-        if !scale_fits(self.scale) {
+        if !pass_limits::scale_fits(self.scale) {
             return false;
         }
-        cosine_fits(self.cosine)
+        pass_limits::cosine_fits(self.cosine)
     }
 }
 

@@ -6,7 +6,7 @@ use mathlib.Core.List.{List, [], _∷_}
 use lib.Dec.{leb}
 use lib.ListN.{length, getD, take, drop}
 use lib.Ieee.{binary32, ofBits}
-use Rattle.float.specs.Bytes.{wordOf}
+use Rattle.float_bits.specs.Bytes.{wordOf}
 use Rattle.star_slice.specs.declared.StarIndex.{StarIndex}
 use Rattle.pattern_entry.specs.declared.PatternEntry.{PatternEntry}
 

@@ -25,9 +25,9 @@ pub fn word(e: &[u8], at: usize) -> u32
     ensures { λ r. ⌜ r ≡ wordAt (now (e .entry)) at ⌝ }
 {
     if at + 3 < e.len() {
-        return float::u32_from_le_bytes([e[at], e[at + 1], e[at + 2], e[at + 3]]);
+        return float_bits::u32_from_le_bytes([e[at], e[at + 1], e[at + 2], e[at + 3]]);
     }
-    float::u32_from_le_bytes([
+    float_bits::u32_from_le_bytes([
         byte(e, at),
         byte(e, at + 1),
         byte(e, at + 2),
@@ -58,7 +58,7 @@ pub fn read_packed(e: &[u8]) -> PatternEntry
     let b = word(e, 4);
     let c = word(e, 8);
     let d = word(e, 12);
-    let edge = float::from_bits(word(e, 16));
+    let edge = float_bits::from_bits(word(e, 16));
     let mark = half(e, 20);
     PatternEntry {
         stars: [StarIndex(a), StarIndex(b), StarIndex(c), StarIndex(d)],

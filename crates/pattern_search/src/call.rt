@@ -143,7 +143,7 @@ fn go(
     let mut places = no_places();
     let mut measures = no_measures();
     let mut hashes = no_hashes();
-    let eight = search_questions::eighth(
+    let eight = eighth_question::eighth(
         centroids,
         order,
         config,

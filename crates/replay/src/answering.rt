@@ -125,9 +125,9 @@ fn sweep_in(w: Words, out: &mut [f32]) -> bool {
     if room > out.len() {
         return false;
     }
-    let estimate = float::from_bits(w.w0);
+    let estimate = float_bits::from_bits(w.w0);
     let error = option(w.w1, w.w2);
-    let step = float::from_bits(w.w3);
+    let step = float_bits::from_bits(w.w3);
     let swept = fov_sweep::build_fov_sweep(estimate, error, step, &mut out[0..room]);
     sweep_line(swept, &*out);
     true
@@ -152,7 +152,7 @@ fn candidate_of(w: Words) -> Candidate {
         StarIndex(w.w7),
         StarIndex(w.w8),
     ];
-    let field = float::from_bits(w.w9);
+    let field = float_bits::from_bits(w.w9);
     Candidate {
         pass: w.w0,
         places,
@@ -166,7 +166,7 @@ fn candidate_of(w: Words) -> Candidate {
 // A completing and its line.
 pub fn complete_record(w: Words, stars: &[f32], coords: &[f32], places: &[u32], triples: &[f32]) {
     let told = candidate_of(w);
-    let scale = float::from_bits(w.w11);
+    let scale = float_bits::from_bits(w.w11);
     let completed = complete::complete(coords, places, triples, stars, told, scale);
     complete_line(completed);
 }

@@ -28,7 +28,7 @@ fn number(n: u64) {
 // A space and the bits of a float, 8 hex digits.
 fn bits(x: f32) {
     text(b" ");
-    io::print_hex(STDOUT_FILENO, float::to_bits(x) as u64, 8);
+    io::print_hex(STDOUT_FILENO, float_bits::to_bits(x) as u64, 8);
 }
 
 // `refused` and the number of the question, without the end of the line.

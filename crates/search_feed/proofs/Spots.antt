@@ -19,7 +19,8 @@ use Rattle.combinations.proofs.Lists.{all-append, all-take}
 use Rattle.preprocess.specs.Claims.{Scale, UnitVector}
 use Rattle.brightness_list.proofs.Orders.{places-have-centroids}
 use Rattle.preprocess.proofs.Units.{centroid-vectors}
-use Rattle.passes.specs.Passes.{scaleFits, passAt}
+use Rattle.pass_limits.specs.Limits.{scaleFits}
+use Rattle.passes.specs.Passes.{passAt}
 use Rattle.passes.proofs.Laws.{passes-fitting}
 use Rattle.crowding.specs.Crowded.{crowded}
 use Rattle.thinning.specs.Thinning.{thinned, keptOf}

@@ -9,7 +9,7 @@ use lib.ListN.{length}
 use mathlib.Core.Option.{none, some}
 use lib.Ieee.{Float}
 use borrow.Author.Tests.{lt-ltb}
-use Rattle.passes.specs.Passes.{scaleFits}
+use Rattle.pass_limits.specs.Limits.{scaleFits}
 use Rattle.combinations.specs.Fours.{Rising}
 use Rattle.combinations.specs.declared.Four.{Four}
 use Rattle.table_blocks.specs.Blocks.{filled}

@@ -14,7 +14,7 @@ use Rattle.undivided_run.specs.Calls.{candidate}
 use Rattle.undivided_run.specs.Step.{start}
 use Rattle.search_feed.specs.Data.{Data, settingsOk}
 use Rattle.search_feed.specs.Feed.{feed}
-use Rattle.passes.specs.Passes.{scaleFits}
+use Rattle.pass_limits.specs.Limits.{scaleFits}
 use Rattle.pattern_search.specs.Answers.{searchedSays}
 use Rattle.pattern_search.specs.Listed.{Given, returned}
 use Rattle.complete.specs.declared.Completion.{Completion}

@@ -32,7 +32,7 @@ pub enum Head {
 fn next_word(fd: i32) -> Word {
     let mut b = [0u8; 4];
     let got = io::read_full(fd, &mut b);
-    let n = float::u32_from_le_bytes(b);
+    let n = float_bits::u32_from_le_bytes(b);
     Word { ok: got == 4, n }
 }
 
@@ -61,7 +61,7 @@ pub fn next_head(fd: i32) -> Head {
     if !length.ok {
         return Head::Broken;
     }
-    let kind = float::u32_from_le_bytes(b);
+    let kind = float_bits::u32_from_le_bytes(b);
     Head::Record(kind, length.n)
 }
 
@@ -121,7 +121,7 @@ pub fn fill_floats(fd: i32, out: &mut [f32], n: usize) -> bool {
         if !x.ok {
             return false;
         }
-        out[i] = float::from_bits(x.n);
+        out[i] = float_bits::from_bits(x.n);
         i += 1;
     }
     true

@@ -20,7 +20,7 @@ pub fn option(present: u32, bits: u32) -> Tolerance
     if present == 0 {
         return Tolerance::Absent;
     }
-    Tolerance::Given(float::from_bits(bits))
+    Tolerance::Given(float_bits::from_bits(bits))
 }
 
 // A cap that may be absent.
@@ -41,8 +41,8 @@ pub fn config_of(w: Words) -> SearchConfig
     let fov = option(w.w6, w.w7);
     let cap = cap_of(w.w8, w.w9, w.w10);
     let patterns = long_of(w.w11, w.w12);
-    let error = float::from_bits(w.w2);
-    let radius = float::from_bits(w.w3);
+    let error = float_bits::from_bits(w.w2);
+    let radius = float_bits::from_bits(w.w3);
     SearchConfig {
         bins: w.w0,
         checking: w.w1,

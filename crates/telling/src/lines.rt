@@ -43,14 +43,14 @@ pub fn counts(state: State) {
 
 // A field of view: radians to four decimals, degrees to one, each rounded to nearest in f32.
 fn field(x: f32) {
-    let n = float::truncate(x * 10000.0 + 0.5) as u64;
+    let n = truncation::truncate(x * 10000.0 + 0.5) as u64;
     number(n / 10000);
     text(b".");
     number(n / 1000 % 10);
     number(n / 100 % 10);
     number(n / 10 % 10);
     number(n % 10);
-    let tenths = float::truncate(x * 572.95776 + 0.5) as u64;
+    let tenths = truncation::truncate(x * 572.95776 + 0.5) as u64;
     text(b" rad (");
     number(tenths / 10);
     text(b".");
