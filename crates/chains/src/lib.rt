@@ -148,7 +148,7 @@ pub fn probe_chain(
     let mut last = slots;
     let mut there: u64 = 0;
     while 0 < a {
-        let slot = search_feed::around(home, c, slots);
+        let slot = probing::around(home, c, slots);
         let seen = look_over(words, packed, stars, sound, mark, slot, last, there);
         let glance = seen.glance;
         match glance {

@@ -46,25 +46,12 @@ pub struct Sight {
     pub candidate: Candidate,
 }
 
-// The slot of probe number c from a home slot: a division only where the sum goes past the last slot.
-pub fn around(home: u64, c: u32, slots: u64) -> u64
-    requires { ⌜ (home < slots) × (slots ≤ 16777216) × (c < slots) ⌝ }
-    ensures { λ r. ⌜ (r ≡ (home + c * c) % slots) × (r < slots) ⌝ }
-{
-    let wide = c as u64;
-    let sum = home + wide * wide;
-    if sum < slots {
-        return sum;
-    }
-    sum % slots
-}
-
 // The slot of probe number c of the key with this hash: (home + c·c) modulo the slot count.
 fn slot_of_probe(hash: u64, c: u32, slots: u64) -> u64
     requires { ⌜ (0 < slots) × (slots ≤ 16777216) × (c < slots) ⌝ }
     ensures { λ r. ⌜ (r ≡ (homeOf hash slots + c * c) % slots) × (r < slots) ⌝ }
 {
-    around(key_hash::hash_to_index(hash, slots), c, slots)
+    probing::around(key_hash::hash_to_index(hash, slots), c, slots)
 }
 
 // The places of a combination in the brightness list.

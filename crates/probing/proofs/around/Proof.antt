@@ -1,9 +1,9 @@
 use mathlib.Core.Path.{refl}
 use native.Mathlib.Omega.{arith}
-use Rattle.search_feed.proofs.Looks.{square-small, probe-below, probe-past}
+use Rattle.probing.proofs.Slots.{square-small, probe-below, probe-past}
 use borrow.Author.Needs.{needs}
-use Rattle.search_feed.proofs.around.Statement.{statement}
-use Rattle.search_feed.proofs.around.Tie as tie
+use Rattle.probing.proofs.around.Statement.{statement}
+use Rattle.probing.proofs.around.Tie as tie
 
 mul-sum : tie.Need-mul-sum
 mul-sum c = let a = c .args in let q = square-small (a .c) (a .slots) (omega arith) (omega arith) in record { fits = omega arith }
