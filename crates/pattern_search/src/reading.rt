@@ -2,7 +2,7 @@
 ghost use mathlib.Core.Path.{_≡_};
 ghost use Prim.Native.Nat.{_+_, _-_, _≤_, _<_};
 ghost use Rattle.search_feed.specs.Data.{frameOf, dataOf};
-ghost use Rattle.search_feed.specs.Feed.{noCandidate};
+ghost use Rattle.candidates.specs.NoCandidate.{noCandidate};
 ghost use Rattle.search_desk.specs.Desk.{ForPass, ForFour};
 ghost use Rattle.chains.specs.Glances.{SoundBelow};
 ghost use Rattle.pattern_search.specs.Turns.{stopping, goingOn, refusesOf, sawEntry, toldOf, passedOf, Ready, Turned};
@@ -23,7 +23,7 @@ use undivided_run::Walk;
 pub fn plain(answer: Answer, state: State) -> Searched
     ensures { λ r. ⌜ r ≡ record { answer = answer; candidate = noCandidate; state = state } ⌝ }
 {
-    let candidate = search_feed::no_candidate();
+    let candidate = candidates::no_candidate();
     Searched {
         answer,
         candidate,

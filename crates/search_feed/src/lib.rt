@@ -7,7 +7,6 @@ ghost use Rattle.table_blocks.specs.Blocks.{tableFits};
 ghost use Rattle.pattern_entry.specs.Entry.{bytesAt};
 ghost use Rattle.key_hash.specs.Key.{homeOf};
 ghost use Rattle.search_feed.specs.Look.{placesIn, blank, lookedOf, entryLook, lookIn};
-ghost use Rattle.search_feed.specs.Feed.{noCandidate};
 use brightness_list::Place;
 use candidates::Candidate;
 use candidates::Image;
@@ -70,27 +69,11 @@ fn places_at(places: &[u32; 64], q: Four) -> [Place; 4]
     [a, b, c, d]
 }
 
-// The candidate where none is given.
-pub fn no_candidate() -> Candidate
-    ensures { λ r. ⌜ r ≡ noCandidate ⌝ }
-{
-    let places = [Place(0), Place(0), Place(0), Place(0)];
-    let stars = [StarIndex(0), StarIndex(0), StarIndex(0), StarIndex(0)];
-    Candidate {
-        pass: 0,
-        places,
-        slot: 0,
-        stars,
-        field: 0.0,
-        rebuild: false,
-    }
-}
-
 // A read that gives no candidate.
 fn blank(seen: Seen) -> Sight
     ensures { λ r. ⌜ r ≡ blank seen ⌝ }
 {
-    let candidate = no_candidate();
+    let candidate = candidates::no_candidate();
     Sight { seen, candidate }
 }
 

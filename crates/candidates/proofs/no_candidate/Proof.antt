@@ -1,8 +1,8 @@
 use mathlib.Core.Path.{refl}
 use lib.Ieee.{ofBits}
-use Rattle.search_feed.specs.Feed.{noCandidate}
-use Rattle.search_feed.proofs.no_candidate.Statement.{statement}
-use Rattle.search_feed.proofs.no_candidate.Tie as tie
+use Rattle.candidates.specs.NoCandidate.{noCandidate}
+use Rattle.candidates.proofs.no_candidate.Statement.{statement}
+use Rattle.candidates.proofs.no_candidate.Tie as tie
 
 returns : tie.Need-returns
 unfolding noCandidate ofBits
