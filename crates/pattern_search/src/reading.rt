@@ -4,7 +4,7 @@ ghost use Prim.Native.Nat.{_+_, _-_, _≤_, _<_};
 ghost use Rattle.search_feed.specs.Data.{frameOf, dataOf};
 ghost use Rattle.candidates.specs.NoCandidate.{noCandidate};
 ghost use Rattle.search_desk.specs.Desk.{ForPass, ForFour};
-ghost use Rattle.chains.specs.Glances.{SoundBelow};
+ghost use Rattle.known_stars.specs.Asked.{SoundBelow};
 ghost use Rattle.pattern_search.specs.Turns.{stopping, goingOn, refusesOf, sawEntry, toldOf, passedOf, Ready, Turned};
 use crate::Answer;
 use crate::Searched;

@@ -6,7 +6,7 @@ ghost use Prim.Native.Nat.{_+_, _-_, _≤_, _<_};
 ghost use lib.ListN.{length, getD};
 ghost use Rattle.key_hash.specs.Key.{homeOf};
 ghost use Rattle.table_blocks.specs.Blocks.{tableFits};
-ghost use Rattle.chains.specs.Glances.{SoundBelow};
+ghost use Rattle.known_stars.specs.Asked.{SoundBelow};
 ghost use Rattle.quiet_reads.specs.Stands.{stand};
 ghost use Rattle.quiet_reads.specs.Onward.{Ahead, Onward};
 

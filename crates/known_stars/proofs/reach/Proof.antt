@@ -1,8 +1,8 @@
 use native.Mathlib.Omega.{arith}
 use borrow.Author.Needs.{needs}
-use Rattle.chains.proofs.Glancing.{allowed-part, allowed-whole}
-use Rattle.chains.proofs.reach.Statement.{statement}
-use Rattle.chains.proofs.reach.Tie as tie
+use Rattle.known_stars.proofs.Asking.{allowed-part, allowed-whole}
+use Rattle.known_stars.proofs.reach.Statement.{statement}
+use Rattle.known_stars.proofs.reach.Tie as tie
 
 mul-result : tie.Need-mul-result
 mul-result c = search needs

@@ -1,11 +1,11 @@
-use Rattle.chains.proofs.Glancing.{stars-known, stars-later, stars-asked}
-use Rattle.chains.specs.Glances.{starsFrom}
+use Rattle.known_stars.proofs.Asking.{stars-known, stars-later, stars-asked}
+use Rattle.known_stars.specs.Asked.{starsFrom}
 use Rattle.star_slice.specs.Shortcuts.{everyStar}
 use mathlib.Core.Path.{_≡_, sym, _∙_}
 use mathlib.Core.Bool.{true, false}
 use borrow.Author.Needs.{needs}
-use Rattle.chains.proofs.ask_stars.Statement.{statement}
-use Rattle.chains.proofs.ask_stars.Tie as tie
+use Rattle.known_stars.proofs.ask_stars.Statement.{statement}
+use Rattle.known_stars.proofs.ask_stars.Tie as tie
 
 returns : tie.Need-returns
 returns c = let a = c .before .before .args in stars-known (a .stars .now) (a .known) (a .made) (c .if1 .taken)
