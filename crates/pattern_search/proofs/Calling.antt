@@ -15,8 +15,8 @@ use Rattle.undivided_run.specs.Calls.{Answer}
 use Rattle.undivided_run.specs.Step.{look, firstRead, zeroCall, search, searchCall}
 use Rattle.undivided_run.specs.Eight.{eightOk}
 use Rattle.undivided_run.specs.Good.{Good, goesOn}
-use Rattle.undivided_run.proofs.Eights.{eight-true}
-use Rattle.undivided_run.proofs.Turns.{begun, begun-good, search-zero, search-run}
+use Rattle.run_claims.proofs.Eights.{eight-true}
+use Rattle.run_claims.proofs.Turns.{begun, begun-good, search-zero, search-run}
 use Rattle.search_feed.specs.Data.{Data}
 use Rattle.search_feed.specs.Feed.{feed}
 use Rattle.search_desk.specs.Desk.{PassDesk, FourDesk}

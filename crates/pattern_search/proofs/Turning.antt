@@ -29,7 +29,7 @@ use Rattle.undivided_run.specs.Calls.{candidate}
 use Rattle.undivided_run.specs.Step.{settle, soundAt}
 use Rattle.undivided_run.specs.Exists.{Here}
 use Rattle.undivided_run.specs.Good.{goesOn, afterRead}
-use Rattle.undivided_run.proofs.Turns.{good-after, good-room, turn-ends, turn-used, turn-refused, turn-hit, turn-passed}
+use Rattle.run_claims.proofs.Turns.{good-after, good-room, turn-ends, turn-used, turn-refused, turn-hit, turn-passed}
 use Rattle.search_feed.specs.Data.{Data}
 use Rattle.search_feed.specs.Image.{keptPlaces, keptPlace, passOf}
 use Rattle.search_feed.specs.Feed.{feed, entryAt, slotAt, testedAt, ifHit, candidateOf, placesOf, hashOfRead}

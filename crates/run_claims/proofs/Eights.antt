@@ -7,10 +7,12 @@ use lib.Dec.{ltb, leb, eqb}
 use borrow.Author.Tests.{ltb-true, leb-true, eqb-true, lt-ltb, le-leb, eq-eqb}
 use Rattle.combinations.specs.declared.Four.{Four}
 use Rattle.combinations.specs.Fours.{Rising}
-use Rattle.undivided_run.specs.Undivided.{Read, Feed}
-use Rattle.undivided_run.specs.Step.{Stage, new, at, done}
+use Rattle.undivided_run.specs.declared.Position.{Position as Read}
+use Rattle.undivided_run.specs.declared.Phase.{Phase as Stage}
+use Rattle.undivided_run.specs.declared.Phase.the-variants.{Fresh as new, At as at, Ended as done}
+use Rattle.undivided_run.specs.Undivided.{Feed}
 use Rattle.undivided_run.specs.Exists.{Here, EightAt}
 use Rattle.undivided_run.specs.Eight.{risesBelow, existsHere, withinCounts, phaseFits}
 
 pub both : (a b : Bool) → a && b ≡ true → (a ≡ true) × (b ≡ true)
 both true b h = (refl, h)

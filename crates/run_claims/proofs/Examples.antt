@@ -8,7 +8,11 @@ use lib.ListN.{length, getD}
 use lib.Dec.{eqb}
 use Rattle.combinations.specs.Fours.{fours, foursOf}
 use Rattle.combinations.specs.Lists.{each, span, upto}
-use Rattle.undivided_run.specs.Undivided.{Status, TooFew, NoMatch, Timeout, Feed, Cap, absent, given, reached, isZero, isSome, ended, _before_, slotOf, filled, chain, readsOf, checked, combinations, passesFrom, undivided}
+use Rattle.undivided_run.specs.declared.Status.{Status}
+use Rattle.undivided_run.specs.declared.Status.the-variants.{TooFew, NoMatch, Timeout}
+use Rattle.undivided_run.specs.declared.Cap.{Cap}
+use Rattle.undivided_run.specs.declared.Cap.the-variants.{Absent as absent, Given as given}
+use Rattle.undivided_run.specs.Undivided.{Feed, reached, isZero, isSome, ended, _before_, slotOf, filled, chain, readsOf, checked, combinations, passesFrom, undivided}
 
 -- A table of the slots given, 1 filled and 0 empty; each combination has two keys, with homes 1 and 4; an entry at slot 5 is a candidate.
 abbrev feed : List ℕ → List ℕ → Feed ℕ ℕ

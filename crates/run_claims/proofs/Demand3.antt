@@ -7,19 +7,27 @@ use mathlib.Core.Logic.{inl, inr}
 use mathlib.Core.Bool.{Bool, true, false, cond}
 use mathlib.Core.Option.{Option, none, some}
 use lib.ListN.{take, drop, length, length-drop}
-use Rattle.undivided_run.specs.Undivided.{Status, Read, Run, Feed, Cap, cases, gives, undivided}
+use Rattle.undivided_run.specs.declared.Status.{Status}
+use Rattle.undivided_run.specs.declared.Cap.{Cap}
+use Rattle.undivided_run.specs.declared.Position.{Position as Read}
+use Rattle.undivided_run.specs.declared.Next.{Next}
+use Rattle.undivided_run.specs.declared.Next.the-variants.{Goes as goes, Ends as ends}
+use Rattle.undivided_run.specs.declared.Phase.{Phase as Stage}
+use Rattle.undivided_run.specs.declared.Phase.the-variants.{Fresh as new, At as at, Ended as done}
+use Rattle.undivided_run.specs.declared.State.{State}
+use Rattle.undivided_run.specs.Undivided.{Run, Feed, cases, gives, undivided}
 use Rattle.undivided_run.specs.Calls.{Answer, candidate, used, over, refused, Fed, allowed, refusal, Machine, fresh, tried, candidates, serve, machine, calls, found}
-use Rattle.undivided_run.specs.Step.{Next, goes, ends, Stage, new, at, done, State, start, settle, bump, final, look, zeroCall, go, call, nine, Lent, search, searchCall, refusalOf, nineOf, soundAt, nextRead, firstRead}
+use Rattle.undivided_run.specs.Step.{start, settle, bump, final, look, zeroCall, go, call, nine, Lent, search, searchCall, refusalOf, nineOf, soundAt, nextRead, firstRead}
 use Rattle.undivided_run.specs.Step.{Walks}
-use Rattle.undivided_run.proofs.Served.{Alike, call-alike, start-alike}
-use Rattle.undivided_run.proofs.Walking.{walks-undivided}
-use Rattle.undivided_run.proofs.Machine.{candidates-taken, progress}
+use Rattle.run_claims.proofs.Served.{Alike, call-alike, start-alike}
+use Rattle.run_claims.proofs.Walking.{walks-undivided}
+use Rattle.run_claims.proofs.Machine.{candidates-taken, progress}
 use Rattle.combinations.specs.Lists.{All}
 use Rattle.undivided_run.specs.Exists.{Here, Keyed, Opened, EightAt}
-use Rattle.undivided_run.specs.Listing.{fedFor, feeds, Fair, FairList, Leaves, Demand3, MovesOn}
-use Rattle.undivided_run.proofs.Existing.{run-here}
+use Rattle.run_claims.specs.Listing.{fedFor, feeds, Fair, FairList, Leaves, Demand3, MovesOn}
+use Rattle.run_claims.proofs.Existing.{run-here}
 use Rattle.undivided_run.specs.Exists.{Within}
-use Rattle.undivided_run.proofs.Bounds.{reads-bound, patterns-bound}
+use Rattle.run_claims.proofs.Bounds.{reads-bound, patterns-bound}
 
 -- the same, told from the answer
 fedBy : {C : Type 0} → Answer C → ℕ → Fed

@@ -5,9 +5,15 @@ use mathlib.Core.Logic.{_⊎_}
 use mathlib.Core.List.{List, [], _∷_}
 use mathlib.Core.Option.{Option, none, some}
 use lib.ListN.{take, drop}
-use Rattle.undivided_run.specs.Undivided.{Status, Read, Run, Feed, Cap, gives, undivided}
+use Rattle.undivided_run.specs.declared.Status.{Status}
+use Rattle.undivided_run.specs.declared.Cap.{Cap}
+use Rattle.undivided_run.specs.declared.Position.{Position as Read}
+use Rattle.undivided_run.specs.declared.Next.the-variants.{Ends as ends}
+use Rattle.undivided_run.specs.declared.Phase.the-variants.{Fresh as new, At as at, Ended as done}
+use Rattle.undivided_run.specs.declared.State.{State}
+use Rattle.undivided_run.specs.Undivided.{Run, Feed, gives, undivided}
 use Rattle.undivided_run.specs.Calls.{Answer, used, over, Fed, allowed, refusal, Machine, fresh, tried, candidates, machine, calls, found}
-use Rattle.undivided_run.specs.Step.{ends, new, at, done, State, start, final, look, firstRead, Lent, searchCall, refusalOf}
+use Rattle.undivided_run.specs.Step.{start, final, look, firstRead, Lent, searchCall, refusalOf}
 
 -- What the machine is fed for a call: the refusal's number where the questions refuse it, else its allowance.
 unfoldable pub fedFor : Option ℕ → ℕ → Fed

@@ -6,8 +6,10 @@ use mathlib.Core.List.{List, [], _∷_, _++_, append-assoc, append-nil}
 use mathlib.Core.Option.{Option, none, some}
 use lib.ListN.{take, drop, length, length-drop}
 use lib.Seq.{take-add}
-use Rattle.undivided_run.specs.Undivided.{Status, Read, Run, cases}
+use Rattle.undivided_run.specs.declared.Status.{Status}
+use Rattle.undivided_run.specs.declared.Position.{Position as Read}
+use Rattle.undivided_run.specs.Undivided.{Run, cases}
 use Rattle.undivided_run.specs.Calls.{Answer, candidate, used, over, refused, Fed, allowed, refusal, Machine, fresh, candidates, serve, machine, calls, found}
 
 module _ {C : Type 0} (gives : Read → Option C) where
   pub candidates-append : (xs ys : List Read) → candidates gives (xs ++ ys) ≡ candidates gives xs ++ candidates gives ys

@@ -10,9 +10,11 @@ use Rattle.combinations.specs.Fours.{Rising, fours}
 use Rattle.combinations.specs.Lists.{All}
 use Rattle.combinations.proofs.Lists.{all-append, all-take}
 use Rattle.combinations.proofs.EachFour.{fours-rise}
-use Rattle.undivided_run.specs.Undivided.{Feed, Cap, absent, given, isZero}
+use Rattle.undivided_run.specs.declared.Cap.{Cap}
+use Rattle.undivided_run.specs.declared.Cap.the-variants.{Absent as absent, Given as given}
+use Rattle.undivided_run.specs.Undivided.{Feed, isZero}
 use Rattle.undivided_run.specs.Exists.{FourHere}
-use Rattle.undivided_run.specs.Tried.{capped, foursFrom, allFours}
+use Rattle.run_claims.specs.Tried.{capped, foursFrom, allFours}
 
 pub no-zero : (m n : ℕ) → isZero m || isZero n ≡ false → (0 < m) × (0 < n)
 unfolding isZero

@@ -7,7 +7,10 @@ use lib.Dec.{ltb}
 use lib.ListN.{take}
 use Rattle.combinations.specs.declared.Four.{Four}
 use Rattle.combinations.specs.Fours.{fours}
-use Rattle.undivided_run.specs.Undivided.{Read, Feed, Cap, absent, given, isZero, starts}
+use Rattle.undivided_run.specs.declared.Cap.{Cap}
+use Rattle.undivided_run.specs.declared.Cap.the-variants.{Absent as absent, Given as given}
+use Rattle.undivided_run.specs.declared.Position.{Position as Read}
+use Rattle.undivided_run.specs.Undivided.{Feed, isZero, starts}
 
 -- The combinations tried in these reads, each with its pass, in order.
 unfoldable pub triedIn : List Read → List (ℕ × Four)

@@ -7,15 +7,24 @@ use mathlib.Core.List.{List, [], _∷_}
 use mathlib.Core.Bool.{Bool, true, false, cond}
 use mathlib.Core.Option.{Option, none, some}
 use lib.ListN.{length}
-use Rattle.undivided_run.specs.Undivided.{Status, NoMatch, Read, Feed, Cap, cases, gives, undivided, starts}
+use Rattle.undivided_run.specs.declared.Status.{Status}
+use Rattle.undivided_run.specs.declared.Status.the-variants.{NoMatch}
+use Rattle.undivided_run.specs.declared.Cap.{Cap}
+use Rattle.undivided_run.specs.declared.Position.{Position as Read}
+use Rattle.undivided_run.specs.declared.Next.{Next}
+use Rattle.undivided_run.specs.declared.Next.the-variants.{Goes as goes, Ends as ends}
+use Rattle.undivided_run.specs.declared.Phase.{Phase as Stage}
+use Rattle.undivided_run.specs.declared.Phase.the-variants.{Fresh as new, At as at, Ended as done}
+use Rattle.undivided_run.specs.declared.State.{State}
+use Rattle.undivided_run.specs.Undivided.{Feed, cases, gives, undivided, starts}
 use Rattle.undivided_run.specs.Calls.{Answer, candidate, used, over, refused}
-use Rattle.undivided_run.specs.Step.{Next, goes, ends, Stage, new, at, done, State, Walks, settle, bump, look, zeroCall, go, call, search, soundAt, nextRead, firstRead}
+use Rattle.undivided_run.specs.Step.{Walks, settle, bump, look, zeroCall, go, call, search, soundAt, nextRead, firstRead}
 use Rattle.undivided_run.specs.Exists.{Here, Keyed, Within, EightAt}
 use Rattle.undivided_run.specs.Good.{HereNext, Room, Good, goesOn, afterRead}
 use Rattle.undivided_run.specs.declared.Walk.{Walk}
-use Rattle.undivided_run.proofs.Walking.{walks-undivided}
-use Rattle.undivided_run.proofs.Bounds.{reads-bound}
-use Rattle.undivided_run.proofs.Existing.{readsFrom, walks-from, readsFrom-bound, to-pass-here, next-here}
+use Rattle.run_claims.proofs.Walking.{walks-undivided}
+use Rattle.run_claims.proofs.Bounds.{reads-bound}
+use Rattle.run_claims.proofs.Existing.{readsFrom, walks-from, readsFrom-bound, to-pass-here, next-here}
 
 -- where a call begins
 abbrev pub begun : {E C : Type 0} → Feed E C → Cap → State → Walk

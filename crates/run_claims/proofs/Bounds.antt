@@ -9,16 +9,19 @@ use lib.ListN.{length, take, length-append, length-take, length-map}
 use Rattle.combinations.specs.declared.Four.{Four}
 use Rattle.combinations.specs.Fours.{fours}
 use Rattle.combinations.specs.Lists.{each, span, upto}
-use Rattle.undivided_run.specs.Undivided.{Read, Feed, Cap, absent, given, isZero, starts, filled, chain, readsOf, undivided}
+use Rattle.undivided_run.specs.declared.Cap.{Cap}
+use Rattle.undivided_run.specs.declared.Cap.the-variants.{Absent as absent, Given as given}
+use Rattle.undivided_run.specs.declared.Position.{Position as Read}
+use Rattle.undivided_run.specs.Undivided.{Feed, isZero, starts, filled, chain, readsOf, undivided}
 use Rattle.undivided_run.specs.Calls.{tried}
 use Rattle.combinations.specs.Lists.{All}
 use Rattle.combinations.proofs.Lists.{length-each}
 use Rattle.combinations.proofs.Count.{fours-64}
-use Rattle.undivided_run.specs.Tried.{capped, foursFrom, allFours}
-use Rattle.undivided_run.proofs.Closed.{readsIn, reads-closed}
-use Rattle.undivided_run.proofs.Tried.{tried-length, run-tries}
+use Rattle.run_claims.specs.Tried.{capped, foursFrom, allFours}
+use Rattle.run_claims.proofs.Closed.{readsIn, reads-closed}
+use Rattle.run_claims.proofs.Tried.{tried-length, run-tries}
 use Rattle.undivided_run.specs.Exists.{FourHere, Within, Keyed}
-use Rattle.undivided_run.proofs.Places.{Fit, all-fit}
+use Rattle.run_claims.proofs.Places.{Fit, all-fit}
 
 all-true : {A : Type 0} (xs : List A) → All (λ _. Unit {0}) xs
 all-true [] = tt

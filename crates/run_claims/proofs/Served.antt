@@ -7,10 +7,17 @@ use mathlib.Core.Bool.{Bool, true, false, cond}
 use mathlib.Core.Option.{Option, none, some}
 use lib.ListN.{take, drop, length, length-drop}
 use lib.Seq.{drop-drop, take-add}
-use Rattle.undivided_run.specs.Undivided.{Status, Read, Run, starts, cases}
+use Rattle.undivided_run.specs.declared.Status.{Status}
+use Rattle.undivided_run.specs.declared.Position.{Position as Read}
+use Rattle.undivided_run.specs.declared.Next.{Next}
+use Rattle.undivided_run.specs.declared.Next.the-variants.{Goes as goes, Ends as ends}
+use Rattle.undivided_run.specs.declared.Phase.{Phase as Stage}
+use Rattle.undivided_run.specs.declared.Phase.the-variants.{Fresh as new, At as at, Ended as done}
+use Rattle.undivided_run.specs.declared.State.{State}
+use Rattle.undivided_run.specs.Undivided.{Run, starts, cases}
 use Rattle.undivided_run.specs.Calls.{Answer, candidate, allowed, Machine, fresh, finalOf, tried, serve, machine}
-use Rattle.undivided_run.specs.Step.{Next, goes, ends, Stage, new, at, done, State, start, settle, final, bump, look, go, zeroCall, call}
+use Rattle.undivided_run.specs.Step.{start, settle, final, bump, look, go, zeroCall, call}
 use Rattle.undivided_run.specs.Step.{Walks}
 
 bump-tried : (r : Read) (rs : List Read) (n : ℕ) → bump r n + tried rs ≡ n + tried (r ∷ rs)
 unfolding bump tried

@@ -12,15 +12,21 @@ use Rattle.combinations.specs.declared.Four.{Four}
 use Rattle.combinations.specs.Fours.{fours}
 use Rattle.combinations.specs.Lists.{each, span, upto}
 use Rattle.combinations.specs.Successor.{firstFour, nextFour}
-use Rattle.undivided_run.specs.Undivided.{Status, TooFew, NoMatch, Read, Run, Feed, Cap, reached, isZero, cases, starts, filled, ended, _before_, chain, readsOf, checked, combinations, passesFrom, undivided}
-use Rattle.undivided_run.specs.Step.{Next, goes, bump, toPass, afterFour, afterKey, nextRead, firstRead}
+use Rattle.undivided_run.specs.declared.Status.{Status}
+use Rattle.undivided_run.specs.declared.Status.the-variants.{TooFew, NoMatch}
+use Rattle.undivided_run.specs.declared.Cap.{Cap}
+use Rattle.undivided_run.specs.declared.Position.{Position as Read}
+use Rattle.undivided_run.specs.declared.Next.{Next}
+use Rattle.undivided_run.specs.declared.Next.the-variants.{Goes as goes}
+use Rattle.undivided_run.specs.Undivided.{Run, Feed, reached, isZero, cases, starts, filled, ended, _before_, chain, readsOf, checked, combinations, passesFrom, undivided}
+use Rattle.undivided_run.specs.Step.{bump, toPass, afterFour, afterKey, nextRead, firstRead}
 use Rattle.undivided_run.specs.Moves.{toFour}
 use Rattle.undivided_run.specs.Step.{Walks}
 use Rattle.combinations.specs.Lists.{Follows}
 use Rattle.combinations.specs.Lists.{All}
 use Rattle.combinations.proofs.Walk.{walks-fours}
 use Rattle.undivided_run.specs.Exists.{FourHere, Keyed}
-use Rattle.undivided_run.proofs.Places.{fours-here}
+use Rattle.run_claims.proofs.Places.{fours-here}
 
 abbrev pub place : ℕ → Four → ℕ → ℕ → Read
 place i q k c = record { pass = i; four = q; key = k; probe = c }

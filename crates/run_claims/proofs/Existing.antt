@@ -12,25 +12,31 @@ use Rattle.combinations.specs.declared.Four.{Four}
 use Rattle.combinations.specs.Fours.{fours}
 use Rattle.combinations.specs.Lists.{each, span}
 use Rattle.combinations.specs.Successor.{firstFour, nextFour}
-use Rattle.undivided_run.specs.Undivided.{Status, TooFew, NoMatch, Read, Run, Feed, Cap, reached, isZero, cases, filled, chain, readsOf, combinations, passesFrom, undivided}
+use Rattle.undivided_run.specs.declared.Status.{Status}
+use Rattle.undivided_run.specs.declared.Status.the-variants.{TooFew, NoMatch}
+use Rattle.undivided_run.specs.declared.Cap.{Cap}
+use Rattle.undivided_run.specs.declared.Position.{Position as Read}
+use Rattle.undivided_run.specs.declared.Next.{Next}
+use Rattle.undivided_run.specs.declared.Next.the-variants.{Goes as goes}
+use Rattle.undivided_run.specs.Undivided.{Run, Feed, reached, isZero, cases, filled, chain, readsOf, combinations, passesFrom, undivided}
 use Rattle.combinations.specs.Lists.{All, In}
 use Rattle.combinations.proofs.Lists.{all-append, all-each, all-upto}
 use Rattle.combinations.specs.Fours.{Rising}
 use Rattle.combinations.proofs.EachFour.{fours-rise, fours-all}
-use Rattle.undivided_run.specs.Tried.{capped, foursFrom, allFours}
-use Rattle.undivided_run.proofs.Closed.{left, readsIn, reads-closed, fours-closed, passes-closed}
-use Rattle.undivided_run.specs.Step.{Next, goes, bump, nextRead, afterFour, afterKey, toPass}
+use Rattle.run_claims.specs.Tried.{capped, foursFrom, allFours}
+use Rattle.run_claims.proofs.Closed.{left, readsIn, reads-closed, fours-closed, passes-closed}
+use Rattle.undivided_run.specs.Step.{bump, nextRead, afterFour, afterKey, toPass}
 use Rattle.undivided_run.specs.Moves.{toFour}
 use Rattle.undivided_run.specs.Step.{Walks}
 use Rattle.combinations.specs.Lists.{Follows}
 use Rattle.combinations.proofs.Walk.{walks-fours}
 use Rattle.combinations.proofs.Successor.{first-rising, next-rising}
-use Rattle.undivided_run.proofs.Walking.{next, chain-walks, keys-walk, fours-walk, passes-walk}
+use Rattle.run_claims.proofs.Walking.{next, chain-walks, keys-walk, fours-walk, passes-walk}
 use Rattle.undivided_run.specs.Exists.{FourHere, Here, Keyed, Within}
 use Rattle.undivided_run.specs.Good.{HereNext}
 use Rattle.combinations.proofs.Lists.{all-after, follows-mid}
-use Rattle.undivided_run.proofs.Places.{Fit, no-zero, rising-here, fit-map, here-passes, capped-fit, all-fit}
-use Rattle.undivided_run.proofs.Bounds.{keys-length, chain-length, fours-kept, foursFrom-length, readsIn-length, capped-shorter}
+use Rattle.run_claims.proofs.Places.{Fit, no-zero, rising-here, fit-map, here-passes, capped-fit, all-fit}
+use Rattle.run_claims.proofs.Bounds.{keys-length, chain-length, fours-kept, foursFrom-length, readsIn-length, capped-shorter}
 
 module _ {E C : Type 0} (F : Feed E C) where
   here-chain : (i : ℕ) (q : Four) (k m c : ℕ) → FourHere F i q → k < F .keys i q → c + m ≤ F .slots → All (Here F) (chain F i q k m c)

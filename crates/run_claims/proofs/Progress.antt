@@ -6,10 +6,16 @@ use native.Mathlib.Omega.{arith}
 use mathlib.Core.Logic.{_⊎_, inl, inr}
 use mathlib.Core.Bool.{Bool, true, false, cond}
 use mathlib.Core.Option.{Option, none, some}
-use Rattle.undivided_run.specs.Undivided.{Status, Read, cases, gives}
+use Rattle.undivided_run.specs.declared.Status.{Status}
+use Rattle.undivided_run.specs.declared.Position.{Position as Read}
+use Rattle.undivided_run.specs.declared.Next.{Next}
+use Rattle.undivided_run.specs.declared.Next.the-variants.{Goes as goes, Ends as ends}
+use Rattle.undivided_run.specs.declared.Phase.the-variants.{Ended as done}
+use Rattle.undivided_run.specs.declared.State.{State}
+use Rattle.undivided_run.specs.Undivided.{cases, gives}
 use Rattle.undivided_run.specs.Calls.{Answer, candidate, used, over, refused}
-use Rattle.undivided_run.specs.Step.{Next, goes, ends, done, State, settle, bump, look, zeroCall, go, call, nine, Lent, search, searchCall, refusalOf, nineOf, soundAt, nextRead, firstRead}
-use Rattle.undivided_run.specs.Listing.{ProgressAny, UsedExactly, EndsAlike}
+use Rattle.undivided_run.specs.Step.{settle, bump, look, zeroCall, go, call, nine, Lent, search, searchCall, refusalOf, nineOf, soundAt, nextRead, firstRead}
+use Rattle.run_claims.specs.Listing.{ProgressAny, UsedExactly, EndsAlike}
 
 -- ---- one read, by whether its entry is sound and what it gives
 module _ {C : Type 0} (st k : State) (t : Answer C × State) (m : ℕ) where

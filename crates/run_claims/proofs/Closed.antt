@@ -12,10 +12,15 @@ use lib.Seq.{take-add}
 use Rattle.combinations.specs.declared.Four.{Four}
 use Rattle.combinations.specs.Fours.{fours}
 use Rattle.combinations.specs.Lists.{each}
-use Rattle.undivided_run.specs.Undivided.{Status, TooFew, NoMatch, Timeout, Read, Run, Feed, Cap, absent, given, reached, isZero, ended, _before_, readsOf, checked, combinations, passesFrom, undivided, gives}
+use Rattle.undivided_run.specs.declared.Status.{Status}
+use Rattle.undivided_run.specs.declared.Status.the-variants.{TooFew, NoMatch, Timeout}
+use Rattle.undivided_run.specs.declared.Cap.{Cap}
+use Rattle.undivided_run.specs.declared.Cap.the-variants.{Absent as absent, Given as given}
+use Rattle.undivided_run.specs.declared.Position.{Position as Read}
+use Rattle.undivided_run.specs.Undivided.{Run, Feed, reached, isZero, ended, _before_, readsOf, checked, combinations, passesFrom, undivided, gives}
 use Rattle.undivided_run.specs.Calls.{candidates}
-use Rattle.undivided_run.proofs.Machine.{candidates-append}
-use Rattle.undivided_run.specs.Tried.{capped, foursFrom, allFours, Begins, NoHigher}
+use Rattle.run_claims.proofs.Machine.{candidates-append}
+use Rattle.run_claims.specs.Tried.{capped, foursFrom, allFours, Begins, NoHigher}
 
 -- the cap, less what was tried already
 unfoldable pub left : Cap → ℕ → Cap

@@ -8,14 +8,16 @@ use mathlib.Core.Bool.{Bool, true, false, cond}
 use lib.ListN.{length}
 use Rattle.combinations.specs.declared.Four.{Four}
 use Rattle.combinations.specs.Lists.{each, span, upto}
-use Rattle.undivided_run.specs.Undivided.{Read, Feed, Cap, isZero, starts, filled, chain, readsOf, undivided}
+use Rattle.undivided_run.specs.declared.Cap.{Cap}
+use Rattle.undivided_run.specs.declared.Position.{Position as Read}
+use Rattle.undivided_run.specs.Undivided.{Feed, isZero, starts, filled, chain, readsOf, undivided}
 use Rattle.undivided_run.specs.Calls.{tried}
-use Rattle.undivided_run.specs.Tried.{capped, allFours}
-use Rattle.undivided_run.proofs.Closed.{reads-closed}
-use Rattle.undivided_run.specs.Tried.{triedIn}
+use Rattle.run_claims.specs.Tried.{capped, allFours}
+use Rattle.run_claims.proofs.Closed.{reads-closed}
+use Rattle.run_claims.specs.Tried.{triedIn}
 use Rattle.combinations.specs.Lists.{All}
 use Rattle.undivided_run.specs.Exists.{Keyed}
-use Rattle.undivided_run.proofs.Places.{Fit, all-fit}
+use Rattle.run_claims.proofs.Places.{Fit, all-fit}
 
 triedIn-append : (xs ys : List Read) → triedIn (xs ++ ys) ≡ triedIn xs ++ triedIn ys
 unfolding triedIn
