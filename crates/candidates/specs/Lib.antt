@@ -1,2 +1,3 @@
+pub mod NoCandidate
 pub mod Tests
 pub mod Claims

@@ -1,6 +1,7 @@
 // A filled slot's entry beside a combination of the image: whether it gives a candidate, and what the candidate carries.
 ghost use mathlib.Core.Path.{_≡_};
 ghost use Rattle.star_directions.specs.Held.{StarsHeld};
+ghost use Rattle.candidates.specs.NoCandidate.{noCandidate};
 ghost use Rattle.candidates.specs.Tests.{testOf};
 use brightness_list::Place;
 use comparisons::inside;
@@ -31,6 +32,22 @@ pub struct Candidate {
 pub enum Tested {
     Over,
     Hit(f32),
+}
+
+// The candidate where none is given.
+pub fn no_candidate() -> Candidate
+    ensures { λ r. ⌜ r ≡ noCandidate ⌝ }
+{
+    let places = [Place(0), Place(0), Place(0), Place(0)];
+    let stars = [StarIndex(0), StarIndex(0), StarIndex(0), StarIndex(0)];
+    Candidate {
+        pass: 0,
+        places,
+        slot: 0,
+        stars,
+        field: 0.0,
+        rebuild: false,
+    }
 }
 
 // The tests of an entry, the mark first. `mark` is that of the key whose chain is read.

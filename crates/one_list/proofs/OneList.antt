@@ -23,7 +23,7 @@ use Rattle.undivided_run.specs.declared.Status.the-variants.{NoMatch}
 use Rattle.undivided_run.specs.declared.Phase.the-variants.{Ended}
 use Rattle.undivided_run.specs.Undivided.{isZero, cases, starts}
 use Rattle.undivided_run.specs.Calls.{candidate, over, refused, allowed, refusal, tried}
-use Rattle.undivided_run.specs.Listing.{fedFor, feeds}
+use Rattle.run_claims.specs.Listing.{fedFor, feeds}
 use Rattle.undivided_run.specs.declared.State.{State}
 use Rattle.undivided_run.specs.Step.{start, refusalOf}
 use Rattle.search_questions.specs.Questions.{firstSeven, firstNo}

@@ -5,6 +5,7 @@ use mathlib.Core.Bool.{Bool, true, false}
 use mathlib.Core.List.{List}
 use mathlib.Core.Option.{Option, none, some}
 use lib.Ieee.{Float}
+use Rattle.candidates.specs.NoCandidate.{noCandidate}
 use Rattle.candidates.specs.declared.Candidate.{Candidate}
 use Rattle.undivided_run.specs.declared.State.{State}
 use Rattle.undivided_run.specs.declared.Walk.{Walk}
@@ -14,10 +15,10 @@ use Rattle.undivided_run.specs.Calls.{Answer}
 use Rattle.undivided_run.specs.Step.{look, firstRead, zeroCall, search, searchCall}
 use Rattle.undivided_run.specs.Eight.{eightOk}
 use Rattle.undivided_run.specs.Good.{Good, goesOn}
-use Rattle.undivided_run.proofs.Eights.{eight-true}
-use Rattle.undivided_run.proofs.Turns.{begun, begun-good, search-zero, search-run}
+use Rattle.run_claims.proofs.Eights.{eight-true}
+use Rattle.run_claims.proofs.Turns.{begun, begun-good, search-zero, search-run}
 use Rattle.search_feed.specs.Data.{Data}
-use Rattle.search_feed.specs.Feed.{feed, noCandidate}
+use Rattle.search_feed.specs.Feed.{feed}
 use Rattle.search_desk.specs.Desk.{PassDesk, FourDesk}
 use Rattle.search_desk.specs.declared.Held.{Held}
 use Rattle.search_feed.proofs.Limits.{every-four-keyed, within-limits}

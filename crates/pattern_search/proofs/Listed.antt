@@ -19,17 +19,17 @@ use Rattle.opening.proofs.Passed.{passed}
 use Rattle.undivided_run.specs.declared.State.{State}
 use Rattle.undivided_run.specs.declared.Status.{Status}
 use Rattle.undivided_run.specs.declared.Next.the-variants.{Ends}
-use Rattle.undivided_run.proofs.Progress.{progress-any, used-exactly}
+use Rattle.run_claims.proofs.Progress.{progress-any, used-exactly}
 use Rattle.undivided_run.specs.declared.Position.{Position}
 use Rattle.undivided_run.specs.Undivided.{cases, gives}
 use Rattle.undivided_run.specs.Calls.{candidate, over, refused, calls, found}
 use Rattle.undivided_run.specs.Step.{Lent, start, look, firstRead, soundAt, search, searchCall, refusalOf, nineOf}
-use Rattle.undivided_run.specs.Listing.{FairList, MovesOn}
+use Rattle.run_claims.specs.Listing.{FairList, MovesOn}
 use Rattle.undivided_run.specs.Exists.{Here, Keyed}
 use Rattle.undivided_run.specs.Eight.{eightOk}
-use Rattle.undivided_run.proofs.Demand3.{KeyedList, demand3, moves-after, eight, never-nine}
-use Rattle.undivided_run.proofs.Eights.{eight-true, eight-holds}
-use Rattle.undivided_run.proofs.Turns.{given-at}
+use Rattle.run_claims.proofs.Demand3.{KeyedList, demand3, moves-after, eight, never-nine}
+use Rattle.run_claims.proofs.Eights.{eight-true, eight-holds}
+use Rattle.run_claims.proofs.Turns.{given-at}
 use Rattle.search_feed.specs.Data.{Data}
 use Rattle.search_feed.specs.Feed.{feed}
 use Rattle.search_feed.proofs.Limits.{every-four-keyed, within-limits}

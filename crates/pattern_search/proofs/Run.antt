@@ -16,9 +16,9 @@ use Rattle.undivided_run.specs.declared.Position.{Position}
 use Rattle.undivided_run.specs.declared.Cap.{Cap}
 use Rattle.undivided_run.specs.Undivided.{cases, gives, slotOf, undivided}
 use Rattle.undivided_run.specs.Calls.{candidates}
-use Rattle.undivided_run.specs.Tried.{Begins}
-use Rattle.undivided_run.proofs.Tried.{run-tries}
-use Rattle.undivided_run.proofs.Closed.{candidates-begin}
+use Rattle.run_claims.specs.Tried.{Begins}
+use Rattle.run_claims.proofs.Tried.{run-tries}
+use Rattle.run_claims.proofs.Closed.{candidates-begin}
 use Rattle.search_feed.specs.Data.{Data}
 use Rattle.search_feed.specs.Image.{keysIn, hashIn, keptPlaces, directionsOf}
 use Rattle.search_feed.specs.Feed.{feed, entryAt, slotAt, testedAt, ifHit, candidateOf, placesOf}

@@ -14,6 +14,7 @@ use Rattle.table_blocks.specs.Blocks.{tableFits, filled as slotFilled, place}
 use Rattle.pattern_catalog.proofs.Slots.{fits-few}
 use Rattle.pattern_entry.specs.Entry.{bytesAt, entryRead}
 use Rattle.sound_entries.specs.Sound.{entrySound}
+use Rattle.candidates.specs.NoCandidate.{noCandidate}
 use Rattle.candidates.specs.declared.Candidate.{Candidate}
 use Rattle.candidates.specs.declared.Tested.{Tested}
 use Rattle.candidates.specs.declared.Tested.the-variants.{Over, Hit}
@@ -28,10 +29,10 @@ use Rattle.undivided_run.specs.Calls.{candidate}
 use Rattle.undivided_run.specs.Step.{settle, soundAt}
 use Rattle.undivided_run.specs.Exists.{Here}
 use Rattle.undivided_run.specs.Good.{goesOn, afterRead}
-use Rattle.undivided_run.proofs.Turns.{good-after, good-room, turn-ends, turn-used, turn-refused, turn-hit, turn-passed}
+use Rattle.run_claims.proofs.Turns.{good-after, good-room, turn-ends, turn-used, turn-refused, turn-hit, turn-passed}
 use Rattle.search_feed.specs.Data.{Data}
 use Rattle.search_feed.specs.Image.{keptPlaces, keptPlace, passOf}
-use Rattle.search_feed.specs.Feed.{feed, entryAt, slotAt, testedAt, ifHit, candidateOf, placesOf, hashOfRead, noCandidate}
+use Rattle.search_feed.specs.Feed.{feed, entryAt, slotAt, testedAt, ifHit, candidateOf, placesOf, hashOfRead}
 use Rattle.search_feed.specs.Look.{blank, placesIn, lookedOf, entryLook, lookIn}
 use Rattle.search_feed.proofs.Looks.{lookAt}
 use Rattle.search_desk.specs.Desk.{PassDesk, FourDesk, ForPass, ForFour}

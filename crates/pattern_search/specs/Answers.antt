@@ -1,12 +1,13 @@
 -- The search call of document 01, and its answer as the code has it. Definitions only.
 use Prim.Native.Nat.{ℕ}
 use mathlib.Core.List.{List}
+use Rattle.candidates.specs.NoCandidate.{noCandidate}
 use Rattle.candidates.specs.declared.Candidate.{Candidate}
 use Rattle.undivided_run.specs.declared.State.{State}
 use Rattle.undivided_run.specs.Calls.{Answer, candidate, used, over, refused}
 use Rattle.undivided_run.specs.Step.{Lent}
 use Rattle.search_feed.specs.Data.{Data}
-use Rattle.search_feed.specs.Feed.{feed, noCandidate}
+use Rattle.search_feed.specs.Feed.{feed}
 use Rattle.search_questions.specs.Questions.{firstNo}
 use Rattle.pattern_search.specs.declared.Searched.{Searched}
 use Rattle.pattern_search.specs.declared.Answer.{Answer as Said}

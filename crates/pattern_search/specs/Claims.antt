@@ -18,7 +18,7 @@ use Rattle.undivided_run.specs.declared.Position.{Position}
 use Rattle.undivided_run.specs.declared.Cap.{Cap}
 use Rattle.undivided_run.specs.Undivided.{gives, undivided}
 use Rattle.undivided_run.specs.Calls.{candidates}
-use Rattle.undivided_run.specs.Tried.{triedIn, capped, allFours, Begins, NoHigher}
+use Rattle.run_claims.specs.Tried.{triedIn, capped, allFours, Begins, NoHigher}
 use Rattle.search_feed.specs.Data.{Frame, Data}
 use Rattle.search_feed.specs.Image.{toleranceIn, passOf, imageAt}
 use Rattle.search_feed.specs.Feed.{feed, slotAt, hashOfRead, candidateOf}

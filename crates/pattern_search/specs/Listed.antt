@@ -16,7 +16,7 @@ use Rattle.undivided_run.specs.Undivided.{Run, gives, undivided}
 use Rattle.undivided_run.specs.Calls.{Answer, Machine, candidate, used, over, tried, candidates, found}
 use Rattle.undivided_run.specs.Step.{Lent, start, final, look, firstRead, soundAt, searchCall, refusalOf}
 use Rattle.undivided_run.specs.Exists.{Here}
-use Rattle.undivided_run.specs.Listing.{Leaves, onRun as runCalls}
+use Rattle.run_claims.specs.Listing.{Leaves, onRun as runCalls}
 use Rattle.search_feed.specs.Data.{Data}
 use Rattle.search_feed.specs.Feed.{feed}
 use Rattle.search_questions.specs.Questions.{firstSeven}

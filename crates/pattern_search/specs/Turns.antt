@@ -6,6 +6,7 @@ use lib.Dec.{eqb}
 use mathlib.Core.List.{List}
 use lib.Ieee.{Float}
 use Rattle.table_blocks.specs.Blocks.{tableFits}
+use Rattle.candidates.specs.NoCandidate.{noCandidate}
 use Rattle.candidates.specs.declared.Candidate.{Candidate}
 use Rattle.undivided_run.specs.declared.Position.{Position}
 use Rattle.undivided_run.specs.declared.State.{State}
@@ -14,13 +15,13 @@ use Rattle.undivided_run.specs.declared.Next.the-variants.{Goes as goes}
 use Rattle.undivided_run.specs.Step.{settle, bump}
 use Rattle.undivided_run.specs.Good.{Good, goesOn}
 use Rattle.search_feed.specs.Data.{Data}
-use Rattle.search_feed.specs.Feed.{feed, noCandidate}
+use Rattle.search_feed.specs.Feed.{feed}
 use Rattle.search_desk.specs.Desk.{PassDesk, FourDesk}
 use Rattle.search_feed.specs.Claims.{Asked5}
 use Rattle.search_desk.specs.declared.Held.{Held}
 use Rattle.search_feed.specs.declared.Seen.{Seen}
 use Rattle.search_feed.specs.declared.Seen.the-variants.{Empty, Unsound, Passed, Found}
-use Rattle.quiet_reads.specs.Quiet.{atKey}
+use Rattle.probing.specs.Probes.{atKey}
 use Rattle.quiet_reads.specs.declared.Stand.{Stand}
 use Rattle.pattern_search.specs.Answers.{searched}
 use Rattle.pattern_search.specs.declared.Turn.{Turn}

@@ -15,7 +15,7 @@ use crate::Answer;
 use crate::Searched;
 use crate::reading::plain;
 use crate::reading::turn;
-use chains::Known;
+use known_stars::Known;
 use search_desk::Held;
 use search_feed::SearchConfig;
 use search_questions::Asked;
@@ -53,7 +53,7 @@ fn run(
         sound: 0,
     };
     loop {
-        let k = chains::ask_stars(stars, known, allowance - a);
+        let k = known_stars::ask_stars(stars, known, allowance - a);
         known = k;
         let u = turn(
             centroids,

@@ -2,9 +2,9 @@
 ghost use mathlib.Core.Path.{_≡_};
 ghost use Prim.Native.Nat.{_+_, _-_, _≤_, _<_};
 ghost use Rattle.search_feed.specs.Data.{frameOf, dataOf};
-ghost use Rattle.search_feed.specs.Feed.{noCandidate};
+ghost use Rattle.candidates.specs.NoCandidate.{noCandidate};
 ghost use Rattle.search_desk.specs.Desk.{ForPass, ForFour};
-ghost use Rattle.chains.specs.Glances.{SoundBelow};
+ghost use Rattle.known_stars.specs.Asked.{SoundBelow};
 ghost use Rattle.pattern_search.specs.Turns.{stopping, goingOn, refusesOf, sawEntry, toldOf, passedOf, Ready, Turned};
 use crate::Answer;
 use crate::Searched;
@@ -23,7 +23,7 @@ use undivided_run::Walk;
 pub fn plain(answer: Answer, state: State) -> Searched
     ensures { λ r. ⌜ r ≡ record { answer = answer; candidate = noCandidate; state = state } ⌝ }
 {
-    let candidate = search_feed::no_candidate();
+    let candidate = candidates::no_candidate();
     Searched {
         answer,
         candidate,
@@ -113,7 +113,7 @@ fn passed(walk: Walk, p: Position, s: Stand, allowance: u64) -> Walk
         return walk;
     }
     let n = p.count(walk.patterns);
-    let to = quiet_reads::moved(p, s.key, s.probe);
+    let to = probing::moved(p, s.key, s.probe);
     Walk {
         next: Next::Goes(to),
         patterns: n,
@@ -231,7 +231,7 @@ fn read_on(
         let reply = plain(Answer::AllowanceUsed, on.state());
         return stop(reply, on, desk);
     }
-    let to = quiet_reads::moved(p, s.key, s.probe);
+    let to = probing::moved(p, s.key, s.probe);
     read_turn(
         centroids,
         order,

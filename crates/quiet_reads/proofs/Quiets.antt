@@ -16,7 +16,7 @@ use Rattle.undivided_run.specs.Undivided.{Feed, gives, starts}
 use Rattle.undivided_run.specs.Step.{bump, soundAt, nextRead}
 use Rattle.undivided_run.specs.Exists.{Keyed}
 use Rattle.undivided_run.specs.Good.{Good, goesOn}
-use Rattle.undivided_run.proofs.Turns.{good-after, turn-passed}
+use Rattle.run_claims.proofs.Turns.{good-after, turn-passed}
 use Rattle.quiet_reads.specs.Quiet.{Quiet, Leads}
 
 pub quiet-cat : {E C : Type 0} (F : Feed E C) (cap : Cap) (j k t : ℕ) (w v u : Next) (n m l : ℕ) → j + k ≡ t → Quiet F cap j w n v m → Quiet F cap k v m u l → Quiet F cap t w n u l

@@ -31,7 +31,8 @@ use Rattle.search_feed.specs.Feed.{feed, slotAt, entryAt, testedAt, ifHit, hash
 use Rattle.chains.specs.Glances.{passesBy, glanceOf}
 use Rattle.chains.specs.Chains.{along, alongBy, glanceAt}
 use Rattle.quiet_reads.specs.Stands.{alongKey, stand}
-use Rattle.quiet_reads.specs.Quiet.{atKey, Quiet, Leads}
+use Rattle.probing.specs.Probes.{atKey}
+use Rattle.quiet_reads.specs.Quiet.{Quiet, Leads}
 use Rattle.chains.specs.declared.Glance.{Glance}
 use Rattle.chains.specs.declared.Glance.the-variants.{Empty, Passed, Stop}
 use Rattle.chains.specs.declared.Along.{Along}

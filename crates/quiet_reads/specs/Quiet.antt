@@ -10,10 +10,6 @@ use Rattle.undivided_run.specs.declared.Next.the-variants.{Goes as goes}
 use Rattle.undivided_run.specs.Undivided.{Feed, gives}
 use Rattle.undivided_run.specs.Step.{bump, soundAt, nextRead}
 
--- another key and probe of the same combination
-abbrev pub atKey : Read → ℕ → ℕ → Read
-atKey p k c = record { pass = p .pass; four = p .four; key = k; probe = c }
-
 -- from w, with n combinations counted, j reads that are sound and give nothing lead to v, with m counted
 abbrev pub Quiet : {E C : Type 0} → Feed E C → Cap → ℕ → Next → ℕ → Next → ℕ → Type 0
 Quiet F cap zero w n v m = (w ≡ v) × (n ≡ m)

@@ -6,11 +6,9 @@ ghost use Prim.Native.Nat.{_+_, _-_, _≤_, _<_};
 ghost use lib.ListN.{length, getD};
 ghost use Rattle.key_hash.specs.Key.{homeOf};
 ghost use Rattle.table_blocks.specs.Blocks.{tableFits};
-ghost use Rattle.chains.specs.Glances.{SoundBelow};
+ghost use Rattle.known_stars.specs.Asked.{SoundBelow};
 ghost use Rattle.quiet_reads.specs.Stands.{stand};
 ghost use Rattle.quiet_reads.specs.Onward.{Ahead, Onward};
-ghost use Rattle.quiet_reads.specs.Quiet.{atKey};
-use undivided_run::Position;
 
 // The key and probe of a combination that reads without a candidate lead to, and what is left of the allowance.
 pub struct Stand {
@@ -25,19 +23,6 @@ pub struct Over {
     pub key: u32,
     pub probe: u32,
     pub left: u64,
-}
-
-// Another key and probe of the same combination.
-pub fn moved(p: Position, key: u32, probe: u32) -> Position
-    ensures { λ r. ⌜ r ≡ atKey p key probe ⌝ }
-{
-    let four = p.four;
-    Position {
-        pass: p.pass,
-        four,
-        key,
-        probe,
-    }
 }
 
 fn stay(key: u32, probe: u32, left: u64) -> Over

@@ -1,8 +1,8 @@
 -- One read, case by case. Assumes nothing.
-use mathlib.Core.Path.{_≡_, refl, sym, ap, _∙_, subst}
-use Prim.Native.Nat.{ℕ, _+_, _*_, _%_, _≤_, _<_}
+use mathlib.Core.Path.{_≡_, refl, sym, ap, _∙_}
+use Prim.Native.Nat.{ℕ, _+_, _*_, _≤_, _<_}
 use native.Mathlib.Omega.{arith}
-use native.Mathlib.Nat.{mul-le-mul, mod-lt, mod-eq-of-lt}
+use native.Mathlib.Nat.{mod-lt}
 use mathlib.Core.Bool.{Bool, true, false, cond}
 use mathlib.Core.List.{List}
 use lib.ListN.{length, take, drop, length-take, length-drop}
@@ -37,20 +37,10 @@ lookAt D r =
     lookIn (D .words) (D .packed) (slotAt D r) (hashOfRead (D .frame) r) (placesOf (D .frame) (r .pass) (r .four)) (r .pass)
     (imageAt (D .frame) (r .pass) (r .four)) (D .frame .config) (passOf (D .frame) (r .pass) .field) (D .stars)
 
--- ---- the slot of a probe
+-- ---- the home slot
 pub home-below : (hash slots : ℕ) → 0 < slots → homeOf hash slots < slots
 unfolding homeOf
 home-below hash slots p = mod-lt _ p
-
-pub square-small : (c slots : ℕ) → slots ≤ 16777216 → c < slots → c * c ≤ 16777216 * 16777216
-square-small c slots f l = mul-le-mul (let p : c ≤ 16777216 = omega arith in p) (let p : c ≤ 16777216 = omega arith in p)
-
-module _ (h c slots s : ℕ) (e : s ≡ h) (p : 0 < slots) where
-  pub probe-below : s + c * c < slots → (s + c * c ≡ (h + c * c) % slots) × (s + c * c < slots)
-  probe-below l = (ap (_+ c * c) e ∙ sym (mod-eq-of-lt (subst (λ x. x + c * c < slots) e l)), l)
-
-  pub probe-past : ((s + c * c) % slots ≡ (h + c * c) % slots) × ((s + c * c) % slots < slots)
-  probe-past = (ap (λ x. (x + c * c) % slots) e, mod-lt (s + c * c) p)
 
 -- ---- a sound entry or not
 module _ (e : List ℕ) (slot hash : ℕ) (places : List Place) (pass : ℕ) (image : Image) (c : SearchConfig) (field : Float) (stars : List Float) (x : Sight) where

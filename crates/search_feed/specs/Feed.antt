@@ -1,18 +1,18 @@
 -- Document 01, "One search": what the undivided run is fed. Definitions only.
 use Prim.Native.Nat.{ℕ, _+_, _*_, _/_, _%_}
-use mathlib.Core.Bool.{cond, false}
+use mathlib.Core.Bool.{cond}
 use mathlib.Core.List.{List, [], _∷_}
 use mathlib.Core.Option.{Option, none, some}
 use lib.ListN.{length}
 use lib.Ieee.{Float}
-use Rattle.float_order.specs.Value.{zero32}
 use Rattle.combinations.specs.declared.Four.{Four}
 use Rattle.brightness_list.specs.declared.Place.{Place}
 use Rattle.key_hash.specs.Key.{homeOf, markOf}
 use Rattle.table_blocks.specs.Blocks.{filled, place}
-use Rattle.pattern_entry.specs.Entry.{star, bytesAt, entryRead}
+use Rattle.pattern_entry.specs.Entry.{bytesAt, entryRead}
 use Rattle.sound_entries.specs.Sound.{entrySound}
 use Rattle.comparisons.specs.Comparisons.{rebuildOf}
+use Rattle.candidates.specs.NoCandidate.{placeOf}
 use Rattle.candidates.specs.Tests.{testOf}
 use Rattle.candidates.specs.declared.Candidate.{Candidate}
 use Rattle.candidates.specs.declared.Tested.{Tested}
@@ -21,21 +21,6 @@ use Rattle.undivided_run.specs.declared.Position.{Position}
 use Rattle.undivided_run.specs.Undivided.{Feed}
 use Rattle.search_feed.specs.Data.{Frame, Data}
 use Rattle.search_feed.specs.Image.{toleranceIn, keysIn, hashIn, passOf, keptPlaces, keptPlace, imageAt}
-
-abbrev pub placeOf : ℕ → Place
-placeOf p = record { 0 = p }
-
--- the candidate where none is given: all zero
-unfoldable pub noCandidate : Candidate
-noCandidate =
-    record {
-      pass = 0;
-      places = placeOf 0 ∷ placeOf 0 ∷ placeOf 0 ∷ placeOf 0 ∷ [];
-      slot = 0;
-      stars = star 0 ∷ star 0 ∷ star 0 ∷ star 0 ∷ [];
-      field = zero32;
-      rebuild = false;
-    }
 
 -- "The combination is given as four places in the brightness list"
 unfoldable pub placesOf : Frame → ℕ → Four → List Place

@@ -12,12 +12,12 @@ use Rattle.table_blocks.specs.Blocks.{filled, place}
 use Rattle.pattern_entry.specs.Entry.{bytesAt, entryRead}
 use Rattle.sound_entries.specs.Sound.{entrySound}
 use Rattle.comparisons.specs.Comparisons.{rebuildOf}
+use Rattle.candidates.specs.NoCandidate.{placeOf, noCandidate}
 use Rattle.candidates.specs.Tests.{testOf}
 use Rattle.candidates.specs.declared.Image.{Image}
 use Rattle.candidates.specs.declared.Tested.{Tested}
 use Rattle.candidates.specs.declared.Tested.the-variants.{Over, Hit}
 use Rattle.search_feed.specs.Image.{toleranceIn}
-use Rattle.search_feed.specs.Feed.{placeOf, noCandidate}
 use Rattle.search_feed.specs.declared.SearchConfig.{SearchConfig}
 use Rattle.search_feed.specs.declared.Sight.{Sight}
 use Rattle.search_feed.specs.declared.Seen.{Seen}

@@ -7,7 +7,6 @@ ghost use Rattle.table_blocks.specs.Blocks.{tableFits};
 ghost use Rattle.pattern_entry.specs.Entry.{bytesAt};
 ghost use Rattle.key_hash.specs.Key.{homeOf};
 ghost use Rattle.search_feed.specs.Look.{placesIn, blank, lookedOf, entryLook, lookIn};
-ghost use Rattle.search_feed.specs.Feed.{noCandidate};
 use brightness_list::Place;
 use candidates::Candidate;
 use candidates::Image;
@@ -46,25 +45,12 @@ pub struct Sight {
     pub candidate: Candidate,
 }
 
-// The slot of probe number c from a home slot: a division only where the sum goes past the last slot.
-pub fn around(home: u64, c: u32, slots: u64) -> u64
-    requires { ⌜ (home < slots) × (slots ≤ 16777216) × (c < slots) ⌝ }
-    ensures { λ r. ⌜ (r ≡ (home + c * c) % slots) × (r < slots) ⌝ }
-{
-    let wide = c as u64;
-    let sum = home + wide * wide;
-    if sum < slots {
-        return sum;
-    }
-    sum % slots
-}
-
 // The slot of probe number c of the key with this hash: (home + c·c) modulo the slot count.
 fn slot_of_probe(hash: u64, c: u32, slots: u64) -> u64
     requires { ⌜ (0 < slots) × (slots ≤ 16777216) × (c < slots) ⌝ }
     ensures { λ r. ⌜ (r ≡ (homeOf hash slots + c * c) % slots) × (r < slots) ⌝ }
 {
-    around(key_hash::hash_to_index(hash, slots), c, slots)
+    probing::around(key_hash::hash_to_index(hash, slots), c, slots)
 }
 
 // The places of a combination in the brightness list.
@@ -83,27 +69,11 @@ fn places_at(places: &[u32; 64], q: Four) -> [Place; 4]
     [a, b, c, d]
 }
 
-// The candidate where none is given.
-pub fn no_candidate() -> Candidate
-    ensures { λ r. ⌜ r ≡ noCandidate ⌝ }
-{
-    let places = [Place(0), Place(0), Place(0), Place(0)];
-    let stars = [StarIndex(0), StarIndex(0), StarIndex(0), StarIndex(0)];
-    Candidate {
-        pass: 0,
-        places,
-        slot: 0,
-        stars,
-        field: 0.0,
-        rebuild: false,
-    }
-}
-
 // A read that gives no candidate.
 fn blank(seen: Seen) -> Sight
     ensures { λ r. ⌜ r ≡ blank seen ⌝ }
 {
-    let candidate = no_candidate();
+    let candidate = candidates::no_candidate();
     Sight { seen, candidate }
 }
 

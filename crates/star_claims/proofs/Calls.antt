@@ -11,9 +11,9 @@ use Rattle.undivided_run.specs.declared.Position.{Position}
 use Rattle.undivided_run.specs.declared.Status.{Status}
 use Rattle.undivided_run.specs.Undivided.{Run}
 use Rattle.undivided_run.specs.Calls.{Answer, candidate, used, over, refused, Machine, tried, found}
-use Rattle.undivided_run.specs.Listing.{Leaves}
+use Rattle.run_claims.specs.Listing.{Leaves}
 use Rattle.undivided_run.specs.Step.{start, searchCall}
-use Rattle.undivided_run.proofs.Demand3.{refused-keeps}
+use Rattle.run_claims.proofs.Demand3.{refused-keeps}
 use Rattle.pattern_search.specs.Answers.{said, shown, searched, searchedSays}
 use Rattle.pattern_search.specs.Listed.{lentBy, returned, answersOf, replies, lastState, run}
 use Rattle.pattern_search.proofs.Listed.{listed}

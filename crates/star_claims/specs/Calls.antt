@@ -6,6 +6,7 @@ use mathlib.Core.List.{List, [], _∷_, map}
 use mathlib.Core.Option.{Option, none, some}
 use lib.Dec.{eqb}
 use lib.ListN.{take, drop}
+use Rattle.candidates.specs.NoCandidate.{noCandidate}
 use Rattle.candidates.specs.declared.Candidate.{Candidate}
 use Rattle.undivided_run.specs.declared.Position.{Position}
 use Rattle.undivided_run.specs.declared.Status.{Status}
@@ -13,7 +14,7 @@ use Rattle.undivided_run.specs.Undivided.{gives}
 use Rattle.undivided_run.specs.Calls.{Answer, candidate, used, over, refused, tried, candidates}
 use Rattle.undivided_run.specs.Step.{start}
 use Rattle.search_feed.specs.Data.{Data}
-use Rattle.search_feed.specs.Feed.{feed, noCandidate}
+use Rattle.search_feed.specs.Feed.{feed}
 use Rattle.pattern_search.specs.Listed.{answersOf, replies, lastState, run, AllSame, Opens, onRun}
 use Rattle.numbers_received.specs.Received.{positionOf, stateOf}
 use Rattle.numbers_handed.specs.Handed.{statusNumber, plainNumbers, candidateNumbers}

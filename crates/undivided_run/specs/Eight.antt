@@ -1,4 +1,4 @@
--- Question 8 as a test. `eight-true` and `eight-holds` of proofs/Eights.antt say that it tests `EightAt`. Definitions only.
+-- Question 8 as a test. `eight-true` and `eight-holds` of run_claims say that it tests `EightAt`. Definitions only.
 use Prim.Native.Nat.{ℕ}
 use mathlib.Core.Bool.{Bool, _&&_}
 use lib.Dec.{leb, ltb, eqb}

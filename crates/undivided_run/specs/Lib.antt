@@ -3,7 +3,5 @@ pub mod Calls
 pub mod Moves
 pub mod Step
 pub mod Exists
-pub mod Tried
-pub mod Listing
 pub mod Eight
 pub mod Good

@@ -2,7 +2,7 @@ use mathlib.Core.Path.{refl, sym, _∙_}
 use native.Mathlib.Omega.{arith}
 use borrow.Author.Tests.{not-true, not-false}
 use borrow.Author.Needs.{needs}
-use Rattle.undivided_run.proofs.Eights.{rises-true}
+use Rattle.run_claims.proofs.Eights.{rises-true}
 use Rattle.passes.proofs.Laws.{passes-fitting}
 use Rattle.search_feed.specs.Data.{frameOf}
 use Rattle.eighth_question.proofs.Existing.{no-pattern, no-pass, no-rise, no-key, by-probe}

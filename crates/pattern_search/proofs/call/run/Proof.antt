@@ -4,9 +4,9 @@ use native.Mathlib.Omega.{arith}
 use Rattle.undivided_run.specs.Good.{goesOn}
 use Rattle.search_feed.specs.Data.{frameOf, dataOf}
 use Rattle.search_feed.specs.Feed.{feed}
-use Rattle.chains.specs.Glances.{SoundBelow}
-use Rattle.chains.specs.declared.Known.{Known}
-use Rattle.chains.proofs.Glancing.{known-below}
+use Rattle.known_stars.specs.Asked.{SoundBelow}
+use Rattle.known_stars.specs.declared.Known.{Known}
+use Rattle.known_stars.proofs.Asking.{known-below}
 use Rattle.pattern_search.specs.Answers.{searched}
 use Rattle.pattern_search.specs.Turns.{Ready}
 use Rattle.pattern_search.proofs.call.run.Statement.{statement}

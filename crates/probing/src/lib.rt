@@ -1,0 +1,31 @@
+// What a probe of a key is: its slot, and the position at another key and probe of the same combination.
+ghost use mathlib.Core.Path.{_≡_};
+ghost use Prim.Native.Nat.{_+_, _*_, _%_, _≤_, _<_};
+ghost use Rattle.probing.specs.Probes.{atKey};
+use undivided_run::Position;
+
+// The slot of probe number c from a home slot: a division only where the sum goes past the last slot.
+pub fn around(home: u64, c: u32, slots: u64) -> u64
+    requires { ⌜ (home < slots) × (slots ≤ 16777216) × (c < slots) ⌝ }
+    ensures { λ r. ⌜ (r ≡ (home + c * c) % slots) × (r < slots) ⌝ }
+{
+    let wide = c as u64;
+    let sum = home + wide * wide;
+    if sum < slots {
+        return sum;
+    }
+    sum % slots
+}
+
+// Another key and probe of the same combination.
+pub fn moved(p: Position, key: u32, probe: u32) -> Position
+    ensures { λ r. ⌜ r ≡ atKey p key probe ⌝ }
+{
+    let four = p.four;
+    Position {
+        pass: p.pass,
+        four,
+        key,
+        probe,
+    }
+}

@@ -1,0 +1,13 @@
+pub mod Machine
+pub mod Served
+pub mod Closed
+pub mod Places
+pub mod Walking
+pub mod Tried
+pub mod Bounds
+pub mod Existing
+pub mod Demand3
+pub mod Progress
+pub mod Eights
+pub mod Turns
+pub mod Examples
