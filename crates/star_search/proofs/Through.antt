@@ -12,7 +12,8 @@ use Rattle.pattern_search.specs.Listed.{returned}
 use Rattle.complete.specs.declared.Completed.{Completed}
 use Rattle.complete.specs.Completing.{completedOf}
 use Rattle.numbers_received.specs.Received.{configOf, stateOf, candidateFrom}
-use Rattle.numbers_handed.specs.Handed.{answerOf, completedNumbers}
+use Rattle.numbers_handed.specs.Handed.{answerOf}
+use Rattle.results_handed.specs.Results.{completedNumbers}
 use Rattle.star_numbers.specs.declared.StarSettings.{StarSettings}
 use Rattle.star_numbers.specs.declared.StarState.{StarState}
 use Rattle.star_numbers.specs.declared.StarCandidate.{StarCandidate}

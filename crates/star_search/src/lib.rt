@@ -7,7 +7,7 @@ ghost use Rattle.opening.specs.Opening.{opening};
 ghost use Rattle.fov_sweep.specs.Sweep.{sweptOf, laterOf};
 ghost use Rattle.complete.specs.Completing.{completedOf};
 ghost use Rattle.numbers_received.specs.Received.{optionOf, candidateFrom};
-ghost use Rattle.numbers_handed.specs.Handed.{openedNumber, slotNumbers, partNumbers, sweptNumbers, completedNumbers};
+ghost use Rattle.results_handed.specs.Results.{openedNumber, slotNumbers, partNumbers, sweptNumbers, completedNumbers};
 ghost use Rattle.star_search.specs.Calls.{answered};
 use opening::Opened;
 use pattern_catalog::Found;
@@ -120,7 +120,7 @@ pub extern "C" fn star_sweep(
 {
     let reach = numbers_received::option_of(error_given, error);
     let swept = fov_sweep::build_fov_sweep(estimate, reach, step, out);
-    numbers_handed::swept_numbers(swept)
+    results_handed::swept_numbers(swept)
 }
 
 // Completing a candidate.
@@ -137,5 +137,5 @@ pub extern "C" fn star_complete(
 {
     let told = numbers_received::candidate_of(candidate);
     let completed = complete::complete(centroids, order, passes, stars, told, scale);
-    numbers_handed::completed_numbers(completed)
+    results_handed::completed_numbers(completed)
 }

@@ -1,6 +1,6 @@
 use borrow.Author.Needs.{needs}
-use Rattle.numbers_handed.proofs.completed_numbers.Statement.{statement}
-use Rattle.numbers_handed.proofs.completed_numbers.Tie as tie
+use Rattle.results_handed.proofs.completed_numbers.Statement.{statement}
+use Rattle.results_handed.proofs.completed_numbers.Tie as tie
 
 four-vectors-requires : tie.Need-four-vectors-requires
 four-vectors-requires c κs = search needs

@@ -1,6 +1,6 @@
 use borrow.Author.Needs.{needs}
-use Rattle.numbers_handed.proofs.swept_numbers.Statement.{statement}
-use Rattle.numbers_handed.proofs.swept_numbers.Tie as tie
+use Rattle.results_handed.proofs.swept_numbers.Statement.{statement}
+use Rattle.results_handed.proofs.swept_numbers.Tie as tie
 
 enum-known-s : tie.Need-enum-known-s
 enum-known-s c = search needs
