@@ -1,7 +1,7 @@
 use borrow.Author.Needs.{needs}
-use Rattle.numbers_received.specs.Received.{configOf}
-use Rattle.numbers_received.proofs.config_of.Statement.{statement}
-use Rattle.numbers_received.proofs.config_of.Tie as tie
+use Rattle.settings_received.specs.Settings.{configOf}
+use Rattle.settings_received.proofs.config_of.Statement.{statement}
+use Rattle.settings_received.proofs.config_of.Tie as tie
 
 option-of-requires : tie.Need-option-of-requires
 option-of-requires c κs = search needs

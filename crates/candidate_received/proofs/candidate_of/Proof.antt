@@ -1,7 +1,7 @@
-use Rattle.numbers_received.specs.Received.{candidateFrom}
+use Rattle.candidate_received.specs.Received.{candidateFrom}
 use borrow.Author.Needs.{needs}
-use Rattle.numbers_received.proofs.candidate_of.Statement.{statement}
-use Rattle.numbers_received.proofs.candidate_of.Tie as tie
+use Rattle.candidate_received.proofs.candidate_of.Statement.{statement}
+use Rattle.candidate_received.proofs.candidate_of.Tie as tie
 
 places-of-requires : tie.Need-places-of-requires
 places-of-requires c κs = search needs

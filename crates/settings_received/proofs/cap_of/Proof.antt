@@ -1,7 +1,7 @@
 use borrow.Author.Tests.{eq-eqb, ne-eqb}
-use Rattle.numbers_received.specs.Received.{capOf}
-use Rattle.numbers_received.proofs.cap_of.Statement.{statement}
-use Rattle.numbers_received.proofs.cap_of.Tie as tie
+use Rattle.settings_received.specs.Settings.{capOf}
+use Rattle.settings_received.proofs.cap_of.Statement.{statement}
+use Rattle.settings_received.proofs.cap_of.Tie as tie
 
 returns : tie.Need-returns
 unfolding capOf

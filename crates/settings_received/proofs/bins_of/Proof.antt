@@ -1,7 +1,7 @@
 use borrow.Author.Tests.{le-leb, lt-leb}
-use Rattle.numbers_received.specs.Received.{binsOf}
-use Rattle.numbers_received.proofs.bins_of.Statement.{statement}
-use Rattle.numbers_received.proofs.bins_of.Tie as tie
+use Rattle.settings_received.specs.Settings.{binsOf}
+use Rattle.settings_received.proofs.bins_of.Statement.{statement}
+use Rattle.settings_received.proofs.bins_of.Tie as tie
 
 returns : tie.Need-returns
 unfolding binsOf

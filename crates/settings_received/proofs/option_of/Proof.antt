@@ -1,8 +1,8 @@
 use borrow.Author.Tests.{eq-eqb, ne-eqb}
 use lib.Ieee.{ofBits, div}
-use Rattle.numbers_received.specs.Received.{optionOf}
-use Rattle.numbers_received.proofs.option_of.Statement.{statement}
-use Rattle.numbers_received.proofs.option_of.Tie as tie
+use Rattle.settings_received.specs.Settings.{optionOf}
+use Rattle.settings_received.proofs.option_of.Statement.{statement}
+use Rattle.settings_received.proofs.option_of.Tie as tie
 
 returns : tie.Need-returns
 unfolding optionOf
