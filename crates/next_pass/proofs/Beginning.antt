@@ -25,9 +25,9 @@ use Rattle.undivided_run.proofs.Steps.{zero-is, zero-not, from, from-end, from-
 use Rattle.search_feed.specs.Data.{Frame, dataOf}
 use Rattle.search_feed.specs.Image.{keptPlaces}
 use Rattle.search_feed.specs.Feed.{feed}
-use Rattle.next_read.specs.Begins.{beginOf}
-use Rattle.next_read.specs.declared.Begin.{Begin}
-use Rattle.next_read.specs.declared.Begin.the-variants.{First, Over}
+use Rattle.next_pass.specs.Begins.{beginOf}
+use Rattle.next_pass.specs.declared.Begin.{Begin}
+use Rattle.next_pass.specs.declared.Begin.the-variants.{First, Over}
 
 -- ---- what a pass begins with
 module _ (n slots patterns : ℕ) where

@@ -10,12 +10,12 @@ use Rattle.undivided_run.specs.Step.{toPass}
 use Rattle.passes.proofs.Laws.{passes-fitting}
 use Rattle.search_feed.specs.Data.{frameOf, dataOf}
 use Rattle.search_feed.specs.Feed.{feed}
-use Rattle.next_read.specs.Desks.{DeskAfter}
-use Rattle.next_read.proofs.Beginning.{passes-end, passes-timeout, passes-first, passes-past}
+use Rattle.next_pass.specs.Desks.{DeskAfter}
+use Rattle.next_pass.proofs.Beginning.{passes-end, passes-timeout, passes-first, passes-past}
 use Rattle.search_desk.proofs.Laid.{kept-64}
-use Rattle.next_read.proofs.Desks.{kept-same, kept-laid}
-use Rattle.next_read.proofs.to_pass.Statement.{statement}
-use Rattle.next_read.proofs.to_pass.Tie as tie
+use Rattle.next_pass.proofs.Desks.{kept-same, kept-laid}
+use Rattle.next_pass.proofs.to_pass.Statement.{statement}
+use Rattle.next_pass.proofs.to_pass.Tie as tie
 
 abbrev Inv-loop : tie.InvT-loop
 Inv-loop centroids order config passes slots from tried places₀ measures₀ n cap desk₀ i₀ s₀ places measures desk i s =

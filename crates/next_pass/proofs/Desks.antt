@@ -6,7 +6,7 @@ use Rattle.search_feed.specs.Data.{Frame}
 use Rattle.search_desk.specs.Desk.{PassDesk, FourDesk, ForPass}
 use Rattle.search_desk.specs.declared.Held.{Held}
 use Rattle.search_desk.proofs.Laid.{laid-pass}
-use Rattle.next_read.specs.Desks.{DeskAfter}
+use Rattle.next_pass.specs.Desks.{DeskAfter}
 
 -- a desk that nothing is done to
 pub kept-same : (F : Frame) (h : Held) (places : List ℕ) (measures : List Float) → PassDesk F h places measures → DeskAfter F h h places measures
