@@ -57,7 +57,7 @@ pub fn lay(
         measures,
     );
     let four = p.four;
-    search_desk::lay_four(config, laid, four, measures, hashes)
+    desk_fours::lay_four(config, laid, four, measures, hashes)
 }
 
 // What a read leads on to: one more read counted, one more combination if it was its first, and the next read.

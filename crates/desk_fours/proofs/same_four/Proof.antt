@@ -1,6 +1,6 @@
-use Rattle.search_desk.proofs.Desks.{differ-a, differ-b, differ-c, by-d}
-use Rattle.search_desk.proofs.same_four.Statement.{statement}
-use Rattle.search_desk.proofs.same_four.Tie as tie
+use Rattle.desk_fours.proofs.Fours.{differ-a, differ-b, differ-c, by-d}
+use Rattle.desk_fours.proofs.same_four.Statement.{statement}
+use Rattle.desk_fours.proofs.same_four.Tie as tie
 
 returns : tie.Need-returns
 returns c = differ-a _ _ (c .if1 .taken)

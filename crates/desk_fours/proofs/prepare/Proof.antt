@@ -1,11 +1,11 @@
 use native.Mathlib.Omega.{arith}
 use Rattle.search_feed.proofs.Limits.{fitting, tolerance-of}
 use Rattle.pattern_keys.proofs.Ranges.{keys-count}
-use Rattle.search_desk.specs.Desk.{imageFrom}
-use Rattle.search_desk.proofs.Desks.{prepared}
+use Rattle.desk_fours.specs.Shown.{imageFrom}
+use Rattle.desk_fours.proofs.Fours.{prepared}
 use borrow.Author.Needs.{needs}
-use Rattle.search_desk.proofs.prepare.Statement.{statement}
-use Rattle.search_desk.proofs.prepare.Tie as tie
+use Rattle.desk_fours.proofs.prepare.Statement.{statement}
+use Rattle.desk_fours.proofs.prepare.Tie as tie
 
 image-of-requires : tie.Need-image-of-requires
 image-of-requires c κs = search needs

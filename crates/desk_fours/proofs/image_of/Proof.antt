@@ -1,7 +1,7 @@
-use Rattle.search_desk.specs.Desk.{imageFrom}
+use Rattle.desk_fours.specs.Shown.{imageFrom}
 use borrow.Author.Needs.{needs}
-use Rattle.search_desk.proofs.image_of.Statement.{statement}
-use Rattle.search_desk.proofs.image_of.Tie as tie
+use Rattle.desk_fours.proofs.image_of.Statement.{statement}
+use Rattle.desk_fours.proofs.image_of.Tie as tie
 
 sort-requires : tie.Need-sort-requires
 sort-requires c κs = search needs

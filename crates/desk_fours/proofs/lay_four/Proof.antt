@@ -3,11 +3,11 @@ use Rattle.kept_angles.specs.Measures.{fourAt}
 use Rattle.kept_angles.proofs.Holding.{held-fewer, still-same}
 use Rattle.search_feed.specs.Image.{imageOf}
 use Rattle.search_feed.proofs.Spots.{image-ratios-of}
-use Rattle.search_desk.specs.Desk.{imageFrom}
-use Rattle.search_desk.proofs.Desks.{same-is, four-again, four-prepared, rises-wider, angles-show}
+use Rattle.desk_fours.specs.Shown.{imageFrom}
+use Rattle.desk_fours.proofs.Fours.{same-is, four-again, four-prepared, rises-wider, angles-show}
 use borrow.Author.Needs.{needs}
-use Rattle.search_desk.proofs.lay_four.Statement.{statement}
-use Rattle.search_desk.proofs.lay_four.Tie as tie
+use Rattle.desk_fours.proofs.lay_four.Statement.{statement}
+use Rattle.desk_fours.proofs.lay_four.Tie as tie
 
 same-four-requires : tie.Need-same-four-requires
 same-four-requires c κs = search needs
