@@ -87,7 +87,7 @@ fn exists_here(
             held: laid,
         };
     }
-    let desk = search_desk::lay_four(config, laid, four, measures, hashes);
+    let desk = desk_fours::lay_four(config, laid, four, measures, hashes);
     if desk.keys <= p.key {
         return EighthAnswer {
             fits: false,

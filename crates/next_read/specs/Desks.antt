@@ -1,4 +1,4 @@
--- What the steps of a call ask of one another about the desk. Definitions only.
+-- What a read asks of the desk. Definitions only.
 use mathlib.Core.Path.{_≡_}
 use Prim.Native.Nat.{ℕ, _≤_, _<_}
 use mathlib.Core.List.{List}
@@ -8,13 +8,8 @@ use Rattle.combinations.specs.Fours.{Rising}
 use Rattle.undivided_run.specs.declared.Position.{Position}
 use Rattle.search_feed.specs.Data.{Frame}
 use Rattle.search_feed.specs.Image.{keysIn, imageAt}
-use Rattle.search_desk.specs.Desk.{PassDesk, FourDesk, ForPass}
+use Rattle.search_desk.specs.Desk.{ForPass}
 use Rattle.search_desk.specs.declared.Held.{Held}
-
--- a desk after a step: it holds what it says, and whatever array held the combination's hashes does so still
-pub record DeskAfter (F : Frame) (before after : Held) (places : List ℕ) (measures : List Float) : Type 0 where
-  pub pass : PassDesk F after places measures
-  pub four : (l : List ℕ) → FourDesk F before l → FourDesk F after l
 
 -- the desk is laid for a read that exists
 pub record AtRead (F : Frame) (slots : ℕ) (h : Held) (p : Position) (places : List ℕ) (measures : List Float) : Type 0 where

@@ -1,19 +1,12 @@
-// What is handed over to a host in C: the library's answers as plain numbers, by the definitions that give document 01's numbers.
+// What a search hands over to a host in C: its answer as plain numbers, by the definitions that give document 01's numbers.
 ghost use mathlib.Core.Path.{_≡_};
-ghost use Rattle.numbers_handed.specs.Handed.{statusNumber, plainNumbers, atNumbers, stateNumbers, candidateNumbers, answerOf, sweptNumbers, vectorNumbers, fourVectors, completedNumbers};
+ghost use Rattle.numbers_handed.specs.Handed.{statusNumber, plainNumbers, atNumbers, stateNumbers, candidateNumbers, answerOf};
 use candidates::Candidate;
-use complete::Completed;
-use complete::Completion;
-use complete::Row;
-use fov_sweep::Swept;
 use pattern_search::Answer;
 use pattern_search::Searched;
 use star_numbers::StarAnswer;
 use star_numbers::StarCandidate;
-use star_numbers::StarCompleted;
 use star_numbers::StarState;
-use star_numbers::StarSwept;
-use star_numbers::StarVector;
 use undivided_run::Phase;
 use undivided_run::Position;
 use undivided_run::State;
@@ -131,72 +124,6 @@ pub fn answer_of(raw: StarState, r: Searched) -> StarAnswer
             number: n,
             candidate,
             state: raw,
-        },
-    }
-}
-
-// The sweep's answer.
-pub fn swept_numbers(s: Swept) -> StarSwept
-    ensures { λ r. ⌜ r ≡ sweptNumbers s ⌝ }
-{
-    match s {
-        Swept::Values(n) => StarSwept {
-            answer: 0,
-            number: 0,
-            count: n,
-        },
-        Swept::Refused(n) => StarSwept {
-            answer: 1,
-            number: n,
-            count: 0,
-        },
-    }
-}
-
-// A vector.
-fn vector_numbers(r: Row) -> StarVector
-    ensures { λ v. ⌜ v ≡ vectorNumbers r ⌝ }
-{
-    let c = r.c;
-    StarVector {
-        x: c[0],
-        y: c[1],
-        z: c[2],
-    }
-}
-
-// Four vectors.
-fn four_vectors(v: [Row; 4]) -> [StarVector; 4]
-    ensures { λ r. ⌜ r ≡ fourVectors v ⌝ }
-{
-    let a = vector_numbers(v[0]);
-    let b = vector_numbers(v[1]);
-    let c = vector_numbers(v[2]);
-    let d = vector_numbers(v[3]);
-    [a, b, c, d]
-}
-
-// Completing's answer.
-pub fn completed_numbers(c: Completed) -> StarCompleted
-    ensures { λ r. ⌜ r ≡ completedNumbers c ⌝ }
-{
-    let said = c.answer;
-    let v = c.image;
-    let w = c.stars;
-    let image = four_vectors(v);
-    let star = four_vectors(w);
-    match said {
-        Completion::Done => StarCompleted {
-            answer: 0,
-            number: 0,
-            image,
-            star,
-        },
-        Completion::Refused(n) => StarCompleted {
-            answer: 1,
-            number: n,
-            image,
-            star,
         },
     }
 }

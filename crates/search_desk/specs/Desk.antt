@@ -4,16 +4,13 @@ use Prim.Native.Nat.{ℕ, _/_, _<_}
 use mathlib.Core.Bool.{Bool, true, false}
 use mathlib.Core.List.{List, [], _∷_}
 use lib.ListN.{length, getD, take}
-use lib.Ieee.{Float, nan, lt}
+use lib.Ieee.{Float}
 use Rattle.float_order.specs.Value.{zero32}
 use Rattle.combinations.specs.declared.Four.{Four}
 use Rattle.candidates.specs.declared.Image.{Image}
 use Rattle.search_feed.specs.Data.{Frame}
-use Rattle.edge_order.specs.Sort.{sorted}
-use Rattle.pattern.specs.Edges.{ratiosOf}
 use Rattle.kept_angles.specs.Measures.{directionAt, AnglesHeld}
 use Rattle.search_feed.specs.Image.{keysIn, hashIn, spotOf, keptPlaces, keptPlace, imageAt}
-use Rattle.search_feed.specs.declared.SearchConfig.{SearchConfig}
 use Rattle.search_desk.specs.declared.Held.{Held}
 
 -- what an empty desk shows: all zero
@@ -80,15 +77,4 @@ pub record ForFour (F : Frame) (i : ℕ) (q : Four) (h : Held) (hashes : List �
   pub yes : h .foured ≡ true
   pub is : h .four ≡ q
   pub held : FourHeld F i q (h .keys) (h .image) hashes
-  pub hashes-long : length hashes ≡ 1024
-
--- what six angles show: the largest and the five ratios, as `imageOf` has it of the angles of four directions
-unfoldable pub imageFrom : List Float → Image
-imageFrom a = record { edge = getD (sorted lt a) 5 nan; ratios = ratiosOf (sorted lt a) }
-
--- what `prepare` makes of what the frame shows: that, and the hashes of its keys, n of them
-pub record Prepared (c : SearchConfig) (shown : Image) (n : ℕ) (image : Image) (hashes : List ℕ) : Type 0 where
-  pub image-is : image ≡ shown
-  pub count : n ≡ length (keysIn c shown)
-  pub hash : (k : ℕ) → k < n → getD hashes k 0 ≡ hashIn c shown k
   pub hashes-long : length hashes ≡ 1024

@@ -13,8 +13,9 @@ ghost use Rattle.search_feed.specs.Image.{keptPlaces};
 ghost use Rattle.search_feed.specs.Feed.{feed};
 ghost use Rattle.search_desk.specs.Desk.{PassDesk, FourDesk, ForPass, ForFour};
 ghost use Rattle.search_feed.specs.Claims.{Asked5};
-ghost use Rattle.next_read.specs.Desks.{DeskAfter, AtRead};
-use next_read::Reached;
+ghost use Rattle.next_pass.specs.Desks.{DeskAfter};
+ghost use Rattle.next_read.specs.Desks.{AtRead};
+use next_pass::Reached;
 use search_desk::Held;
 use search_feed::SearchConfig;
 use undivided_run::Next;
@@ -56,7 +57,7 @@ pub fn lay(
         measures,
     );
     let four = p.four;
-    search_desk::lay_four(config, laid, four, measures, hashes)
+    desk_fours::lay_four(config, laid, four, measures, hashes)
 }
 
 // What a read leads on to: one more read counted, one more combination if it was its first, and the next read.
@@ -122,7 +123,7 @@ pub fn begin(
 {
     let phase = st.phase;
     match phase {
-        Phase::Fresh => next_read::to_pass(
+        Phase::Fresh => next_pass::to_pass(
             centroids,
             order,
             config,

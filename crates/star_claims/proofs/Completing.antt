@@ -38,8 +38,10 @@ use Rattle.pattern_search.specs.Listed.{lentBy}
 use Rattle.pattern_search.proofs.Listed.{candidate-read}
 use Rattle.pattern_search.proofs.Run.{gives-exactly}
 use Rattle.pattern_search.proofs.Saying.{says}
-use Rattle.numbers_received.specs.Received.{stateOf, candidateFrom}
-use Rattle.numbers_handed.specs.Handed.{candidateNumbers, answerOf, completedNumbers}
+use Rattle.numbers_received.specs.Received.{stateOf}
+use Rattle.candidate_received.specs.Received.{candidateFrom}
+use Rattle.numbers_handed.specs.Handed.{candidateNumbers, answerOf}
+use Rattle.results_handed.specs.Results.{completedNumbers}
 use Rattle.star_search.specs.Calls.{givenBy, answered}
 use Rattle.star_claims.specs.Claims.{Completable, CompletableThroughC}
 use Rattle.star_claims.proofs.Tags.{candidate-back}

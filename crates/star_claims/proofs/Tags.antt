@@ -29,8 +29,11 @@ use Rattle.pattern_catalog.specs.Answers.{filledAt, empty, refused}
 use Rattle.fov_sweep.specs.Sweep.{sweepFits}
 use Rattle.star_directions.specs.Directions.{noStar}
 use Rattle.candidate_questions.specs.Questions.{noPlace}
-use Rattle.numbers_received.specs.Received.{optionOf, binsOf, configOf, positionOf, unknown, endedOf, stateOf, candidateFrom}
-use Rattle.numbers_handed.specs.Handed.{openedNumber, phaseNumbers, flagNumber}
+use Rattle.settings_received.specs.Settings.{optionOf, binsOf, configOf}
+use Rattle.numbers_received.specs.Received.{positionOf, unknown, endedOf, stateOf}
+use Rattle.candidate_received.specs.Received.{candidateFrom}
+use Rattle.numbers_handed.specs.Handed.{phaseNumbers, flagNumber}
+use Rattle.results_handed.specs.Results.{openedNumber}
 use Rattle.star_claims.specs.Claims.{ZeroPasses, StateBack, CandidateBack, ZeroIsFresh, UnknownSettings, UnknownError, UnknownState, PartAsNumbers}
 
 -- ---- the opening check

@@ -23,8 +23,11 @@ use Rattle.pattern_catalog.specs.Answers.{Answer}
 use Rattle.pattern_catalog.specs.SlotRead.{sectionPart}
 use Rattle.opening.specs.Opening.{opening}
 use Rattle.fov_sweep.specs.Sweep.{sweepFits}
-use Rattle.numbers_received.specs.Received.{optionOf, configOf, stateOf, candidateFrom}
-use Rattle.numbers_handed.specs.Handed.{openedNumber, plainNumbers, stateNumbers, candidateNumbers, partNumbers, completedNumbers}
+use Rattle.settings_received.specs.Settings.{optionOf, configOf}
+use Rattle.numbers_received.specs.Received.{stateOf}
+use Rattle.candidate_received.specs.Received.{candidateFrom}
+use Rattle.numbers_handed.specs.Handed.{plainNumbers, stateNumbers, candidateNumbers}
+use Rattle.results_handed.specs.Results.{openedNumber, partNumbers, completedNumbers}
 use Rattle.star_search.specs.Calls.{Call, answered}
 use Rattle.star_numbers.specs.declared.StarSettings.{StarSettings}
 use Rattle.star_numbers.specs.declared.StarState.{StarState}

@@ -11,8 +11,11 @@ use Rattle.pattern_search.specs.declared.Searched.{Searched}
 use Rattle.pattern_search.specs.Listed.{returned}
 use Rattle.complete.specs.declared.Completed.{Completed}
 use Rattle.complete.specs.Completing.{completedOf}
-use Rattle.numbers_received.specs.Received.{configOf, stateOf, candidateFrom}
-use Rattle.numbers_handed.specs.Handed.{answerOf, completedNumbers}
+use Rattle.settings_received.specs.Settings.{configOf}
+use Rattle.numbers_received.specs.Received.{stateOf}
+use Rattle.candidate_received.specs.Received.{candidateFrom}
+use Rattle.numbers_handed.specs.Handed.{answerOf}
+use Rattle.results_handed.specs.Results.{completedNumbers}
 use Rattle.star_numbers.specs.declared.StarSettings.{StarSettings}
 use Rattle.star_numbers.specs.declared.StarState.{StarState}
 use Rattle.star_numbers.specs.declared.StarCandidate.{StarCandidate}

@@ -4,7 +4,8 @@ use mathlib.Core.List.{List}
 use lib.Ieee.{Float}
 use Rattle.search_feed.specs.Data.{frameOf, dataOf}
 use Rattle.pattern_search.specs.Listed.{Given, returned}
-use Rattle.numbers_received.specs.Received.{configOf, stateOf}
+use Rattle.settings_received.specs.Settings.{configOf}
+use Rattle.numbers_received.specs.Received.{stateOf}
 use Rattle.numbers_handed.specs.Handed.{answerOf}
 use Rattle.star_numbers.specs.declared.StarSettings.{StarSettings}
 use Rattle.star_numbers.specs.declared.StarState.{StarState}

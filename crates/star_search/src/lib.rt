@@ -6,8 +6,9 @@ ghost use Rattle.pattern_catalog.specs.SlotRead.{slotRead};
 ghost use Rattle.opening.specs.Opening.{opening};
 ghost use Rattle.fov_sweep.specs.Sweep.{sweptOf, laterOf};
 ghost use Rattle.complete.specs.Completing.{completedOf};
-ghost use Rattle.numbers_received.specs.Received.{optionOf, candidateFrom};
-ghost use Rattle.numbers_handed.specs.Handed.{openedNumber, slotNumbers, partNumbers, sweptNumbers, completedNumbers};
+ghost use Rattle.settings_received.specs.Settings.{optionOf};
+ghost use Rattle.candidate_received.specs.Received.{candidateFrom};
+ghost use Rattle.results_handed.specs.Results.{openedNumber, slotNumbers, partNumbers, sweptNumbers, completedNumbers};
 ghost use Rattle.star_search.specs.Calls.{answered};
 use opening::Opened;
 use pattern_catalog::Found;
@@ -48,7 +49,7 @@ pub extern "C" fn star_search(
 ) -> StarAnswer
     ensures { λ r. ⌜ r ≡ answered state (record { centroids = now (centroids .entry); order = now (order .entry); settings = settings; passes = now (passes .entry); slots = slots; words = now (words .entry); packed = now (packed .entry); stars = now (stars .entry); allowance = allowance }) ⌝ }
 {
-    let config = numbers_received::config_of(settings);
+    let config = settings_received::config_of(settings);
     let from = numbers_received::state_of(state);
     let said = pattern_search::search(
         centroids,
@@ -118,9 +119,9 @@ pub extern "C" fn star_sweep(
 ) -> StarSwept
     ensures { λ r. ⌜ (r ≡ sweptNumbers (sweptOf estimate (optionOf «error_given» error) step (length (now (out .entry))))) × (now (out .exit) ≡ laterOf estimate (optionOf «error_given» error) step (now (out .entry))) ⌝ }
 {
-    let reach = numbers_received::option_of(error_given, error);
+    let reach = settings_received::option_of(error_given, error);
     let swept = fov_sweep::build_fov_sweep(estimate, reach, step, out);
-    numbers_handed::swept_numbers(swept)
+    results_handed::swept_numbers(swept)
 }
 
 // Completing a candidate.
@@ -135,7 +136,7 @@ pub extern "C" fn star_complete(
 ) -> StarCompleted
     ensures { λ r. ⌜ r ≡ completedNumbers (completedOf (now (centroids .entry)) (now (order .entry)) (now (passes .entry)) (now (stars .entry)) (candidateFrom candidate) scale) ⌝ }
 {
-    let told = numbers_received::candidate_of(candidate);
+    let told = candidate_received::candidate_of(candidate);
     let completed = complete::complete(centroids, order, passes, stars, told, scale);
-    numbers_handed::completed_numbers(completed)
+    results_handed::completed_numbers(completed)
 }

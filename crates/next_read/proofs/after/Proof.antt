@@ -1,7 +1,7 @@
 use mathlib.Core.Logic.{⊎-elim}
 use mathlib.Core.Path.{sym, ap, _∙_}
 use Rattle.search_desk.proofs.Laid.{laid-pass}
-use Rattle.next_read.proofs.Desks.{kept-same}
+use Rattle.next_pass.proofs.Desks.{kept-same}
 use Rattle.next_read.proofs.Following.{probe-follows, probes-end, probe-stops}
 use Rattle.undivided_run.specs.declared.Next.the-variants.{Goes}
 use borrow.Author.Needs.{needs}

@@ -2,7 +2,7 @@ use mathlib.Core.Path.{sym, _∙_}
 use native.Mathlib.Omega.{arith}
 use Rattle.passes.proofs.Laws.{passes-fitting}
 use Rattle.search_desk.proofs.Laid.{laid-pass, next-pass-inside}
-use Rattle.next_read.proofs.Desks.{kept-same}
+use Rattle.next_pass.proofs.Desks.{kept-same}
 use Rattle.next_read.proofs.Following.{four-follows, four-ends}
 use borrow.Author.Needs.{needs}
 use Rattle.next_read.proofs.after_four.Statement.{statement}

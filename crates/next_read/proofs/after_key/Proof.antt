@@ -1,6 +1,6 @@
 use mathlib.Core.Path.{sym, ap, _∙_}
 use Rattle.search_desk.proofs.Laid.{laid-pass}
-use Rattle.next_read.proofs.Desks.{kept-same}
+use Rattle.next_pass.proofs.Desks.{kept-same}
 use Rattle.next_read.proofs.Following.{key-follows, key-ends}
 use Rattle.undivided_run.specs.declared.Next.the-variants.{Goes}
 use borrow.Author.Needs.{needs}

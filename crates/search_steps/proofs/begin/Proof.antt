@@ -1,4 +1,4 @@
-use Rattle.next_read.proofs.Desks.{kept-same}
+use Rattle.next_pass.proofs.Desks.{kept-same}
 use Rattle.search_steps.proofs.Stepping.{begun-fresh, begun-ended, begun-at}
 use borrow.Author.Needs.{needs}
 use Rattle.search_steps.proofs.begin.Statement.{statement}

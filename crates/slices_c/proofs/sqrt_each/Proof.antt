@@ -1,4 +1,4 @@
--- `leaves_c::sqrt_each` meets its contract. The loop's invariant: `values` is what it was, with the first i replaced by their roots. Assumes nothing.
+-- `slices_c::sqrt_each` meets its contract. The loop's invariant: `values` is what it was, with the first i replaced by their roots. Assumes nothing.
 use mathlib.Core.Path.{_≡_, refl, _∙_}
 use Prim.Native.Nat.{_≤_, _-_}
 use native.Mathlib.Omega.{arith}

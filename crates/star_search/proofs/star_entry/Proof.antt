@@ -2,7 +2,7 @@ use mathlib.Core.Path.{sym, ap, _∙_}
 use native.Mathlib.Omega.{arith}
 use Rattle.pattern_catalog.specs.Answers.{foundSays}
 use Rattle.pattern_catalog.proofs.Slots.{read-place}
-use Rattle.numbers_handed.specs.Handed.{partNumbers}
+use Rattle.results_handed.specs.Results.{partNumbers}
 use borrow.Author.Needs.{needs}
 use Rattle.star_search.proofs.star_entry.Statement.{statement}
 use Rattle.star_search.proofs.star_entry.Tie as tie

@@ -1,6 +1,6 @@
 use mathlib.Core.Path.{sym, ap, _∙_}
 use Rattle.opening.specs.Answers.{openedSays}
-use Rattle.numbers_handed.specs.Handed.{openedNumber}
+use Rattle.results_handed.specs.Results.{openedNumber}
 use borrow.Author.Needs.{needs}
 use Rattle.star_search.proofs.star_open.Statement.{statement}
 use Rattle.star_search.proofs.star_open.Tie as tie

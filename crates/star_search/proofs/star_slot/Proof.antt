@@ -1,6 +1,6 @@
 use mathlib.Core.Path.{sym, ap, _∙_}
 use Rattle.pattern_catalog.specs.Answers.{slotSays}
-use Rattle.numbers_handed.specs.Handed.{slotNumbers}
+use Rattle.results_handed.specs.Results.{slotNumbers}
 use borrow.Author.Needs.{needs}
 use Rattle.star_search.proofs.star_slot.Statement.{statement}
 use Rattle.star_search.proofs.star_slot.Tie as tie

@@ -1,7 +1,7 @@
 use mathlib.Core.Path.{ap, _∙_}
 use lib.ListN.{length}
 use Rattle.fov_sweep.specs.Sweep.{sweptOf, laterOf}
-use Rattle.numbers_handed.specs.Handed.{sweptNumbers}
+use Rattle.results_handed.specs.Results.{sweptNumbers}
 use borrow.Author.Needs.{needs}
 use Rattle.star_search.proofs.star_sweep.Statement.{statement}
 use Rattle.star_search.proofs.star_sweep.Tie as tie
