@@ -1,4 +1,4 @@
--- What a pass begins with, by its tests, and what that says of the passes from there on. Assumes nothing.
+-- What a pass begins with says of the passes from there on. Assumes nothing.
 use mathlib.Core.Path.{_≡_, refl, sym, _∙_, ap}
 use Prim.Native.Nat.{ℕ, _+_, _-_, _/_, _≤_, _<_}
 use native.Mathlib.Omega.{arith}
@@ -8,10 +8,9 @@ use mathlib.Core.List.{List}
 use lib.Dec.{ltb}
 use lib.ListN.{length}
 use lib.Ieee.{Float}
-use borrow.Author.Tests.{lt-ltb, le-ltb, ltb-true, ltb-false}
+use borrow.Author.Tests.{ltb-true, ltb-false}
 use Rattle.combinations.specs.declared.Four.{Four}
-use Rattle.combinations.specs.Successor.{firstFour, maybeOf}
-use Rattle.combinations.specs.declared.MaybeFour.{MaybeFour}
+use Rattle.combinations.specs.Successor.{firstFour}
 use Rattle.combinations.specs.declared.MaybeFour.the-variants.{Next as Following, Nothing}
 use Rattle.undivided_run.specs.declared.Status.{Status}
 use Rattle.undivided_run.specs.declared.Cap.{Cap}
@@ -21,38 +20,13 @@ use Rattle.undivided_run.specs.declared.Next.the-variants.{Goes, Ends}
 use Rattle.undivided_run.specs.Undivided.{Feed, reached, isZero, cases}
 use Rattle.undivided_run.specs.Moves.{firstOf}
 use Rattle.undivided_run.specs.Step.{toPass}
-use Rattle.undivided_run.proofs.Steps.{zero-is, zero-not, from, from-end, from-timeout, from-few, from-off, from-open, from-none}
+use Rattle.undivided_run.proofs.Steps.{from, from-end, from-timeout, from-few, from-off, from-open, from-none}
 use Rattle.search_feed.specs.Data.{Frame, dataOf}
 use Rattle.search_feed.specs.Image.{keptPlaces}
 use Rattle.search_feed.specs.Feed.{feed}
-use Rattle.next_pass.specs.Begins.{beginOf}
-use Rattle.next_pass.specs.declared.Begin.{Begin}
-use Rattle.next_pass.specs.declared.Begin.the-variants.{First, Over}
-
--- ---- what a pass begins with
-module _ (n slots patterns : ℕ) where
-  pub begin-few : n < 4 → Over TooFew ≡ beginOf n slots patterns
-  unfolding beginOf
-  begin-few h = rw (lt-ltb _ _ h)
-
-  module _ (h : 4 ≤ n) where
-    pub begin-no-slot : slots ≡ 0 → Over NoMatch ≡ beginOf n slots patterns
-    unfolding beginOf
-    begin-no-slot z = rw (le-ltb _ _ h, zero-is _ z)
-
-    module _ (z : slots ≡ 0 → ⊥) where
-      pub begin-no-pattern : patterns ≡ 0 → Over NoMatch ≡ beginOf n slots patterns
-      unfolding beginOf
-      begin-no-pattern p = rw (le-ltb _ _ h, zero-not _ z, zero-is _ p)
-
-      module _ (p : patterns ≡ 0 → ⊥) (m : MaybeFour) (e : maybeOf m ≡ firstFour n) where
-        pub begin-open : (q : Four) → m ≡ Following q → First q ≡ beginOf n slots patterns
-        unfolding beginOf cases
-        begin-open q f = rw (le-ltb _ _ h, zero-not _ z, zero-not _ p, ← e, f)
-
-        pub begin-none : m ≡ Nothing → Over NoMatch ≡ beginOf n slots patterns
-        unfolding beginOf cases
-        begin-none f = rw (le-ltb _ _ h, zero-not _ z, zero-not _ p, ← e, f)
+use Rattle.pass_begins.specs.Begins.{beginOf}
+use Rattle.pass_begins.specs.declared.Begin.{Begin}
+use Rattle.pass_begins.specs.declared.Begin.the-variants.{First, Over}
 
 -- ---- the passes from a pass on, by what it begins with
 module _ {E C : Type 0} (F : Feed E C) (cap : Cap) (tried i : ℕ) (s : Status) (h : i < F .passes) (b : Bool) (e : b ≡ reached cap tried) (f : b ≡ false) (k : ℕ) (ke : k ≡ F .kept i) (g : Begin) (ge : g ≡ beginOf k (F .slots) (F .patterns)) where

@@ -9,10 +9,8 @@ ghost use Rattle.search_feed.specs.Data.{frameOf, dataOf};
 ghost use Rattle.search_feed.specs.Feed.{feed};
 ghost use Rattle.search_desk.specs.Desk.{PassDesk};
 ghost use Rattle.search_feed.specs.Claims.{Asked5};
-ghost use Rattle.next_pass.specs.Begins.{beginOf};
 ghost use Rattle.next_pass.specs.Desks.{DeskAfter};
-use combinations::Four;
-use combinations::MaybeFour;
+use pass_begins::Begin;
 use search_desk::Held;
 use search_feed::SearchConfig;
 use undivided_run::Next;
@@ -23,32 +21,6 @@ use undivided_run::Status;
 pub struct Reached {
     pub next: Next,
     pub held: Held,
-}
-
-// What a pass begins with: its first combination, or its status where it has no read.
-pub enum Begin {
-    First(Four),
-    Over(Status),
-}
-
-// How a pass begins whose thinning kept so many: below 4 is TooFew, a table without slots or patterns is NoMatch.
-fn begin_pass(kept: u32, slots: u64, patterns: u64) -> Begin
-    requires { ⌜ kept ≤ 64 ⌝ }
-    ensures { λ r. ⌜ r ≡ beginOf kept slots patterns ⌝ }
-{
-    if kept < 4 {
-        return Begin::Over(Status::TooFew);
-    }
-    if slots == 0 {
-        return Begin::Over(Status::NoMatch);
-    }
-    if patterns == 0 {
-        return Begin::Over(Status::NoMatch);
-    }
-    match combinations::first_four(kept) {
-        MaybeFour::Next(q) => Begin::First(q),
-        MaybeFour::Nothing => Begin::Over(Status::NoMatch),
-    }
 }
 
 // The first read of the passes from `from` on; `status` is that of the pass before.
@@ -83,7 +55,7 @@ pub fn to_pass(
         }
         let laid = search_desk::lay_anew(centroids, order, config, passes, i, places, measures);
         desk = laid;
-        match begin_pass(laid.kept, slots, config.patterns) {
+        match pass_begins::begin_pass(laid.kept, slots, config.patterns) {
             Begin::First(q) => {
                 return Reached {
                     next: Next::Goes(Position::first_of(i, q)),

@@ -159,7 +159,7 @@ fn go(
         return plain(Answer::Refused(8), st);
     }
     let desk = eight.held;
-    let first = search_steps::begin(
+    let first = call_begins::begin(
         centroids,
         order,
         config,

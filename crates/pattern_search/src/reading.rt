@@ -203,7 +203,7 @@ fn read_on(
     requires { ⌜ Ready (dataOf (frameOf (now centroids) (now order) config (now passes)) slots (now words) (now packed) (now stars)) walk held (now places) (now measures) (now hashes) × (walk .next ≡ Next.Goes p) × SoundBelow (now stars) sound ⌝ }
     ensures { λ r. ⌜ Turned (dataOf (frameOf (now (centroids .entry)) (now (order .entry)) config (now (passes .entry))) slots (now (words .entry)) (now (packed .entry)) (now (stars .entry))) st allowance walk (now (places .exit)) (now (measures .exit)) (now (hashes .exit)) r ⌝ }
 {
-    let desk = search_steps::lay(
+    let desk = read_desk::lay(
         centroids,
         order,
         config,

@@ -17,7 +17,7 @@ use Rattle.run_claims.proofs.Demand3.{refused-keeps}
 use Rattle.pattern_search.specs.Answers.{said, shown, searched, searchedSays}
 use Rattle.pattern_search.specs.Listed.{lentBy, returned, answersOf, replies, lastState, run}
 use Rattle.pattern_search.proofs.Listed.{listed}
-use Rattle.numbers_received.specs.Received.{unknown, stateOf}
+use Rattle.state_received.specs.Received.{unknown, stateOf}
 use Rattle.numbers_handed.specs.Handed.{plainNumbers, candidateNumbers, answerOf}
 use Rattle.star_search.specs.Calls.{Call, givenBy, answered}
 use Rattle.star_claims.specs.Calls.{answers, lastRaw, saidBy, numbersOf, foundIn, phaseOn, SameCalls, ListedThroughC, ListedFromZero}

@@ -38,7 +38,7 @@ use Rattle.pattern_search.specs.Listed.{lentBy}
 use Rattle.pattern_search.proofs.Listed.{candidate-read}
 use Rattle.pattern_search.proofs.Run.{gives-exactly}
 use Rattle.pattern_search.proofs.Saying.{says}
-use Rattle.numbers_received.specs.Received.{stateOf}
+use Rattle.state_received.specs.Received.{stateOf}
 use Rattle.candidate_received.specs.Received.{candidateFrom}
 use Rattle.numbers_handed.specs.Handed.{candidateNumbers, answerOf}
 use Rattle.results_handed.specs.Results.{completedNumbers}

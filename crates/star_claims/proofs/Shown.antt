@@ -12,7 +12,7 @@ use Rattle.undivided_run.specs.declared.Phase.{Phase}
 use Rattle.undivided_run.specs.declared.Phase.the-variants.{Fresh, At, Ended}
 use Rattle.undivided_run.specs.declared.Status.{Status}
 use Rattle.undivided_run.specs.declared.Status.the-variants.{TooFew, NoMatch, Timeout}
-use Rattle.numbers_received.specs.Received.{positionOf, unknown, endedOf, stateOf}
+use Rattle.state_received.specs.Received.{positionOf, unknown, endedOf, stateOf}
 use Rattle.numbers_handed.specs.Handed.{statusNumber}
 use Rattle.star_numbers.specs.declared.StarState.{StarState}
 

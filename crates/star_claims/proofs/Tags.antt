@@ -30,7 +30,7 @@ use Rattle.fov_sweep.specs.Sweep.{sweepFits}
 use Rattle.star_directions.specs.Directions.{noStar}
 use Rattle.candidate_questions.specs.Questions.{noPlace}
 use Rattle.settings_received.specs.Settings.{optionOf, binsOf, configOf}
-use Rattle.numbers_received.specs.Received.{positionOf, unknown, endedOf, stateOf}
+use Rattle.state_received.specs.Received.{positionOf, unknown, endedOf, stateOf}
 use Rattle.candidate_received.specs.Received.{candidateFrom}
 use Rattle.numbers_handed.specs.Handed.{phaseNumbers, flagNumber}
 use Rattle.results_handed.specs.Results.{openedNumber}

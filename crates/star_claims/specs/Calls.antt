@@ -16,7 +16,7 @@ use Rattle.undivided_run.specs.Step.{start}
 use Rattle.search_feed.specs.Data.{Data}
 use Rattle.search_feed.specs.Feed.{feed}
 use Rattle.pattern_search.specs.Listed.{answersOf, replies, lastState, run, AllSame, Opens, onRun}
-use Rattle.numbers_received.specs.Received.{positionOf, stateOf}
+use Rattle.state_received.specs.Received.{positionOf, stateOf}
 use Rattle.numbers_handed.specs.Handed.{statusNumber, plainNumbers, candidateNumbers}
 use Rattle.star_numbers.specs.declared.StarState.{StarState}
 use Rattle.star_numbers.specs.declared.StarCandidate.{StarCandidate}

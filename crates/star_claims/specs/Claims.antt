@@ -24,7 +24,7 @@ use Rattle.pattern_catalog.specs.SlotRead.{sectionPart}
 use Rattle.opening.specs.Opening.{opening}
 use Rattle.fov_sweep.specs.Sweep.{sweepFits}
 use Rattle.settings_received.specs.Settings.{optionOf, configOf}
-use Rattle.numbers_received.specs.Received.{stateOf}
+use Rattle.state_received.specs.Received.{stateOf}
 use Rattle.candidate_received.specs.Received.{candidateFrom}
 use Rattle.numbers_handed.specs.Handed.{plainNumbers, stateNumbers, candidateNumbers}
 use Rattle.results_handed.specs.Results.{openedNumber, partNumbers, completedNumbers}

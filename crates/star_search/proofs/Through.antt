@@ -12,7 +12,7 @@ use Rattle.pattern_search.specs.Listed.{returned}
 use Rattle.complete.specs.declared.Completed.{Completed}
 use Rattle.complete.specs.Completing.{completedOf}
 use Rattle.settings_received.specs.Settings.{configOf}
-use Rattle.numbers_received.specs.Received.{stateOf}
+use Rattle.state_received.specs.Received.{stateOf}
 use Rattle.candidate_received.specs.Received.{candidateFrom}
 use Rattle.numbers_handed.specs.Handed.{answerOf}
 use Rattle.results_handed.specs.Results.{completedNumbers}

@@ -5,7 +5,7 @@ use lib.Ieee.{Float}
 use Rattle.search_feed.specs.Data.{frameOf, dataOf}
 use Rattle.pattern_search.specs.Listed.{Given, returned}
 use Rattle.settings_received.specs.Settings.{configOf}
-use Rattle.numbers_received.specs.Received.{stateOf}
+use Rattle.state_received.specs.Received.{stateOf}
 use Rattle.numbers_handed.specs.Handed.{answerOf}
 use Rattle.star_numbers.specs.declared.StarSettings.{StarSettings}
 use Rattle.star_numbers.specs.declared.StarState.{StarState}

@@ -50,7 +50,7 @@ pub extern "C" fn star_search(
     ensures { λ r. ⌜ r ≡ answered state (record { centroids = now (centroids .entry); order = now (order .entry); settings = settings; passes = now (passes .entry); slots = slots; words = now (words .entry); packed = now (packed .entry); stars = now (stars .entry); allowance = allowance }) ⌝ }
 {
     let config = settings_received::config_of(settings);
-    let from = numbers_received::state_of(state);
+    let from = state_received::state_of(state);
     let said = pattern_search::search(
         centroids,
         order,

@@ -5,8 +5,8 @@ use lib.Dec.{ltb}
 use Rattle.combinations.specs.Successor.{firstFour}
 use Rattle.undivided_run.specs.declared.Status.the-variants.{TooFew, NoMatch}
 use Rattle.undivided_run.specs.Undivided.{isZero, cases}
-use Rattle.next_pass.specs.declared.Begin.{Begin}
-use Rattle.next_pass.specs.declared.Begin.the-variants.{First, Over}
+use Rattle.pass_begins.specs.declared.Begin.{Begin}
+use Rattle.pass_begins.specs.declared.Begin.the-variants.{First, Over}
 
 -- n is how many the pass keeps
 unfoldable pub beginOf : ℕ → ℕ → ℕ → Begin

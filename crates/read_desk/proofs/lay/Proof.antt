@@ -3,8 +3,8 @@ use borrow.Author.Needs.{needs}
 use Rattle.combinations.specs.Fours.{Rising}
 use Rattle.search_feed.specs.Data.{frameOf}
 use Rattle.search_desk.proofs.Laid.{same-pass, four-shown, four-directions, four-at}
-use Rattle.search_steps.proofs.lay.Statement.{statement}
-use Rattle.search_steps.proofs.lay.Tie as tie
+use Rattle.read_desk.proofs.lay.Statement.{statement}
+use Rattle.read_desk.proofs.lay.Tie as tie
 
 lay-pass-requires : tie.Need-lay-pass-requires
 lay-pass-requires c κs = search needs

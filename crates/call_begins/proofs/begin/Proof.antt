@@ -1,8 +1,8 @@
 use Rattle.next_pass.proofs.Desks.{kept-same}
-use Rattle.search_steps.proofs.Stepping.{begun-fresh, begun-ended, begun-at}
+use Rattle.call_begins.proofs.Beginning.{begun-fresh, begun-ended, begun-at}
 use borrow.Author.Needs.{needs}
-use Rattle.search_steps.proofs.begin.Statement.{statement}
-use Rattle.search_steps.proofs.begin.Tie as tie
+use Rattle.call_begins.proofs.begin.Statement.{statement}
+use Rattle.call_begins.proofs.begin.Tie as tie
 
 enum-told : tie.Need-enum-told
 enum-told c = search needs

@@ -1,7 +1,7 @@
-use Rattle.next_pass.proofs.Beginning.{begin-few, begin-no-slot, begin-no-pattern, begin-open, begin-none}
+use Rattle.pass_begins.proofs.Beginning.{begin-few, begin-no-slot, begin-no-pattern, begin-open, begin-none}
 use borrow.Author.Needs.{needs}
-use Rattle.next_pass.proofs.begin_pass.Statement.{statement}
-use Rattle.next_pass.proofs.begin_pass.Tie as tie
+use Rattle.pass_begins.proofs.begin_pass.Statement.{statement}
+use Rattle.pass_begins.proofs.begin_pass.Tie as tie
 
 returns : tie.Need-returns
 returns c = begin-few _ _ _ (c .if1 .taken)

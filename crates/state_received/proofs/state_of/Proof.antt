@@ -1,8 +1,8 @@
 use borrow.Author.Tests.{eq-eqb, ne-eqb}
-use Rattle.numbers_received.specs.Received.{stateOf}
+use Rattle.state_received.specs.Received.{stateOf}
 use borrow.Author.Needs.{needs}
-use Rattle.numbers_received.proofs.state_of.Statement.{statement}
-use Rattle.numbers_received.proofs.state_of.Tie as tie
+use Rattle.state_received.proofs.state_of.Statement.{statement}
+use Rattle.state_received.proofs.state_of.Tie as tie
 
 returns : tie.Need-returns
 unfolding stateOf

@@ -1,8 +1,8 @@
 use mathlib.Core.Path.{refl}
-use Rattle.numbers_received.specs.Received.{positionOf}
+use Rattle.state_received.specs.Received.{positionOf}
 use borrow.Author.Needs.{needs}
-use Rattle.numbers_received.proofs.position_of.Statement.{statement}
-use Rattle.numbers_received.proofs.position_of.Tie as tie
+use Rattle.state_received.proofs.position_of.Statement.{statement}
+use Rattle.state_received.proofs.position_of.Tie as tie
 
 array-read-t6 : tie.Need-array-read-t6
 array-read-t6 c = search needs

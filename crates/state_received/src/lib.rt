@@ -1,7 +1,7 @@
 // The state that is received from a host in C, as the library's own type.
 // A tag that isn't known becomes a value that its question refuses, so that the first no still wins.
 ghost use mathlib.Core.Path.{_≡_};
-ghost use Rattle.numbers_received.specs.Received.{positionOf, endedOf, stateOf, unknown};
+ghost use Rattle.state_received.specs.Received.{positionOf, endedOf, stateOf, unknown};
 use combinations::Four;
 use star_numbers::StarState;
 use undivided_run::Phase;
