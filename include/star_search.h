@@ -83,7 +83,7 @@ enum {
 /* StarAnswer.answer */
 enum {
     STAR_CANDIDATE = 0,    /* the last read gave a candidate; go on with the state given back */
-    STAR_USED = 1,         /* the allowance is used and a read is left; go on with the state given back */
+    STAR_USED = 1,         /* the allowance is used and a read is left; go on with the state given back. With allowance 0 it is the state as received */
     STAR_ENDED = 2,        /* no read is left; number is the status */
     STAR_REFUSED = 3       /* number is the question's; the state comes back as received */
 };
@@ -102,8 +102,8 @@ enum {
 };
 
 /* Where a search stands between two calls. All zero is a fresh state. A host keeps it, copies it or stores it as it likes; nothing
- * in it points anywhere. Fields that a phase doesn't use are ignored, and are 0 in every state that a call gives back unless it is refused,
- * also where it made no read; a refused call gives back the state as received, byte for byte. */
+ * in it points anywhere. Fields that a phase doesn't use are ignored, and are 0 in every state that a call makes. A refused call makes none, and
+ * neither does a call with allowance 0 that answers STAR_USED: they give back the state as received, byte for byte. */
 typedef struct StarState {
     uint32_t phase;        /* STAR_FRESH, STAR_AT, STAR_OVER */
     uint32_t status;       /* of an ended state: STAR_TOO_FEW, STAR_NO_MATCH, STAR_TIMEOUT */
@@ -210,7 +210,8 @@ uint32_t star_open(uint64_t slots,
                    const uint8_t *packed, size_t packed_length,
                    const float *stars, size_t stars_length);
 
-/* One search call: at most `allowance` table reads from `state` on. */
+/* One search call: at most `allowance` table reads from `state` on. With allowance 0 it makes none: unless it is refused it
+ * answers STAR_ENDED where no read is left, else STAR_USED; refused or STAR_USED, it changes nothing. */
 StarAnswer star_search(const float *centroids, size_t centroids_length,
                        const uint32_t *order, size_t order_length,
                        StarSettings settings,

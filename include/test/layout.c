@@ -99,7 +99,7 @@ static void state_fields(void)
 
     /* a fresh state uses no other field, and counts nothing */
     StarState fresh = {.status = 9, .pass = 9, .four = {9, 9, 9, 9}, .key = 9, .probe = 9, .reserved = 9};
-    EXPECT(search(fresh, 0).answer == STAR_USED && same_state(search(fresh, 0).state, zero));
+    EXPECT(search(fresh, 1).answer == STAR_USED && same_state(search(fresh, 1).state, search(zero, 1).state));
     fresh.patterns = 1;
     EXPECT(refused(search(fresh, 0), 8, fresh));
     fresh.patterns = 0;
@@ -123,12 +123,12 @@ static void state_fields(void)
     limit.reads++;
     EXPECT(refused(search(limit, 3), 8, limit));
 
-    /* a state at its next read comes back with the same numbers, unused ones 0 */
+    /* a state at its next read uses neither status nor reserved */
     StarState at = {.phase = STAR_AT, .pass = 2, .four = {1, 4, 6, 9}, .key = 1, .probe = 3, .patterns = 1000, .reads = 2000};
     StarState with = at;
     with.status = 77;
     with.reserved = 78;
-    EXPECT(search(with, 0).answer == STAR_USED && same_state(search(with, 0).state, at));
+    EXPECT(search(with, 1).answer == STAR_USED && same_state(search(with, 1).state, search(at, 1).state));
     /* probe 3 of a chain in an empty part of the table ends the chain: the next key, the same combination */
     StarAnswer a = search(at, 1);
     EXPECT(a.answer == STAR_USED && a.state.phase == STAR_AT && a.state.pass == 2 && a.state.key == 2 && a.state.probe == 0);
@@ -146,6 +146,53 @@ static void state_fields(void)
     moved[8].patterns = 162656257;
     for (int i = 0; i < 9; i++)
         EXPECT(refused(search(moved[i], 1), 8, moved[i]));
+}
+
+/* ---- allowance 0: where a read is left the state comes back as received, bit for bit; else the call is ended */
+static int unchanged(StarState st)
+{
+    StarAnswer a = search(st, 0);
+    return a.answer == STAR_USED && a.number == 0 && zero_candidate(a.candidate) && same_state(a.state, st);
+}
+
+/* each bit of the unused bytes from `low` to `high` alone, then all of them */
+static void unused_bytes(StarState st, size_t low, size_t high)
+{
+    unsigned char *at = (unsigned char *)&st;
+    for (size_t bit = 8 * low; bit < 8 * high; bit++) {
+        at[bit / 8] = (unsigned char)(1u << bit % 8);
+        EXPECT(unchanged(st));
+        at[bit / 8] = 0;
+    }
+    for (size_t i = low; i < high; i++)
+        at[i] = (unsigned char)(i + 1);
+    EXPECT(unchanged(st));
+    StarAnswer a = search(st, 1);
+    EXPECT(a.answer == STAR_USED && a.state.phase == STAR_AT && a.state.reads == st.reads + 1);
+    EXPECT(a.state.status == 0 && a.state.reserved == 0);
+}
+
+static void allowance_zero(void)
+{
+    StarState fresh = {0}, at = {.phase = STAR_AT, .pass = 2, .four = {1, 4, 6, 9}, .key = 1, .probe = 3, .patterns = 1000, .reads = 2000};
+    unused_bytes(fresh, offsetof(StarState, status), offsetof(StarState, patterns));
+    unused_bytes(at, offsetof(StarState, status), offsetof(StarState, pass));
+    unused_bytes(at, offsetof(StarState, reserved), offsetof(StarState, patterns));
+
+    /* no read is left: ended, and the state is made anew */
+    StarState junk = {.status = 9, .pass = 8, .four = {7, 6, 5, 4}, .key = 3, .probe = 2, .reserved = 1};
+    StarState few = {.phase = STAR_OVER, .status = STAR_TOO_FEW};
+    StarSettings s = settings();
+    s.checking = 3;
+    StarAnswer a = search_with(s, junk, 0);
+    EXPECT(a.answer == STAR_ENDED && a.number == STAR_TOO_FEW && same_state(a.state, few));
+    junk.phase = STAR_OVER, junk.status = STAR_TOO_FEW;
+    a = search(junk, 0);
+    EXPECT(a.answer == STAR_ENDED && a.number == STAR_TOO_FEW && same_state(a.state, few));
+
+    /* refused */
+    junk.status = 3;
+    EXPECT(refused(search(junk, 0), 8, junk));
 }
 
 /* ---- the settings */
@@ -416,6 +463,7 @@ int main(void)
 {
     states_as_received();
     state_fields();
+    allowance_zero();
     settings_fields();
     first_no();
     table_calls();

@@ -191,8 +191,29 @@ fn spoil_settings(rng: &mut Rng, settings: &mut Settings) {
     }
 }
 
-/// A state: fresh, the last one that came back, that with one field changed, a small one, or any bits.
+/// A state, now and then with other numbers in the fields that its phase doesn't use.
 pub fn state(rng: &mut Rng, last: &State) -> State {
+    let mut state = any_state(rng, last);
+    if rng.once_in(3) {
+        fill_unused(rng, &mut state);
+    }
+    state
+}
+
+/// Any numbers in the fields that a state's phase doesn't use.
+fn fill_unused(rng: &mut Rng, state: &mut State) {
+    let [status, pass, a, b, c, d, key, probe, reserved] = std::array::from_fn(|_| whole(rng) as u32);
+    if state.phase != 1 {
+        (state.pass, state.four, state.key, state.probe) = (pass, [a, b, c, d], key, probe);
+    }
+    if state.phase != 2 {
+        state.status = status;
+    }
+    state.reserved = reserved;
+}
+
+/// A state: fresh, the last one that came back, that with one field changed, a small one, or any bits.
+fn any_state(rng: &mut Rng, last: &State) -> State {
     let mut state = *last;
     match rng.below(8) {
         0 | 1 => return State::default(),

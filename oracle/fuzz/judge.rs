@@ -43,6 +43,11 @@ fn said(state: &raw::State) -> Option<ModelState> {
     Some(ModelState { phase, patterns: state.patterns, reads: state.reads })
 }
 
+/// Is this a state as a call makes it, fields that its phase doesn't use 0?
+pub fn made_by_a_call(state: &raw::State) -> bool {
+    said(state).is_some_and(|given| laid(&given) == *state)
+}
+
 impl Judge {
     /// Lends the same to the model.
     pub fn new(lending: &Lending) -> Judge {
@@ -84,6 +89,7 @@ impl Judge {
         let told = raw::Answer { state: laid(&after), ..raw::Answer::default() };
         match answer {
             Answer::Refused(number) => refused(number),
+            Answer::Used if allowance == 0 => raw::Answer { answer: 1, state: *state, ..told },
             Answer::Used => raw::Answer { answer: 1, ..told },
             Answer::Ended(status) => raw::Answer { answer: 2, number: status as u32, ..told },
             Answer::Candidate(found) => {

@@ -5,7 +5,7 @@ use std::fmt;
 
 use crate::guard::Arena;
 use crate::hostile::{self, Lending};
-use crate::judge::{swept, Judge};
+use crate::judge::{made_by_a_call, swept, Judge};
 use crate::raw::{self, Answer, Candidate, Completed, State};
 use crate::rng::Rng;
 
@@ -161,10 +161,11 @@ impl Round<'_> {
         self.tally.search[answer.min(3) as usize] += 1;
         let reads = after.reads.wrapping_sub(state.reads);
         let plain = candidate == Candidate::default();
-        let made = after.reserved == 0 && after.phase < 3 && reads <= allowance;
+        let made = made_by_a_call(&after) && reads <= allowance;
         let good = match answer {
             0 => number == 0 && made && self.candidate(&candidate, frame, table) && reads > 0,
-            1 => number == 0 && made && plain && reads == allowance && after.phase < 2,
+            1 if allowance == 0 => number == 0 && plain && after == *state && after.phase < 2,
+            1 => number == 0 && made && plain && reads == allowance && after.phase == 1,
             2 => number < 3 && made && plain && after.phase == 2 && after.status == number,
             3 => {
                 self.tally.refused[number.min(14) as usize] += 1;

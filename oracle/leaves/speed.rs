@@ -173,10 +173,10 @@ fn rising(low: f64, high: f64) -> Vec<f32> {
     inputs
 }
 
-/// A requirement is judged by the medians; the least times show what the machine does when nothing else runs.
+/// An aim is judged by the medians; the least times show what the machine does when nothing else runs.
 fn met(name: &str, [medians, least]: [f64; 2], most: f64) -> bool {
     let word = if medians <= most { "met" } else { "NOT met" };
-    println!("\nRequired of the {name}: at most {most} times. The largest ratio of the medians is {medians:.2}, of the least times {least:.2}: {word}");
+    println!("\nOur own aim for the {name}: at most {most} times. The largest ratio of the medians is {medians:.2}, of the least times {least:.2}: {word}");
     medians <= most
 }
 

@@ -189,8 +189,8 @@ impl<'a> Table<'a> {
 
     /// One search call: at most `allowance` table reads from `state` on. It stops right after a read that gives a candidate.
     ///
-    /// A refused call leaves the state as it was. A table that was never opened may be searched too; then question 9 is asked at
-    /// each filled slot that is read.
+    /// A refused call leaves the state as it was, and so does a call with allowance 0 unless it is ended. A table that was never
+    /// opened may be searched too; then question 9 is asked at each filled slot that is read.
     pub fn search(&self, frame: &Frame, settings: &Settings, state: &mut State, allowance: u64) -> Result<Answer, Refusal> {
         let told = raw::search(frame.lent(), settings.lent(), self.lent(), state.0, allowance);
         state.0 = told.state;

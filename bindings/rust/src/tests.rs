@@ -185,6 +185,21 @@ fn spoilt_states_are_refused() {
 }
 
 #[test]
+fn allowance_zero_changes_nothing() {
+    let mut bytes = [0; State::BYTES];
+    bytes[4..40].fill(0x5A); // a fresh state uses none of these
+    let mut state = State::from_bytes(&bytes);
+    assert_eq!(table().search(&FRAME, &SETTINGS, &mut state, 0), Ok(Answer::Used));
+    assert_eq!(state.to_bytes(), bytes, "as received");
+    let (three, mut ended) = (Frame { order: &[0, 1, 2], ..FRAME }, state.clone());
+    assert_eq!(table().search(&three, &SETTINGS, &mut ended, 0), Ok(Answer::Ended(Status::TooFew)), "no read is left");
+    assert_eq!(ended.to_bytes()[8..], [0; 48], "an ended state is made anew");
+    let mut plain = State::fresh();
+    let told = table().search(&FRAME, &SETTINGS, &mut plain, 1);
+    assert_eq!((table().search(&FRAME, &SETTINGS, &mut state, 1), state), (told, plain), "so is one after a read");
+}
+
+#[test]
 fn completing() {
     let found = run(&FRAME, &SETTINGS, u64::MAX).0[4];
     assert!(found.rebuild);

@@ -1,15 +1,13 @@
--- The laws of `arcOf` that callers use, for h from 0 to 1. None shows the formula.
+-- The law of `arcOf` that callers use, for h from 0 to 1; it does not show the formula.
 --   arc-in        the arc lies from 0 to `quarterTurn`, the f32 nearest to half of pi, so it is finite
---   arc-nought    the arc of 0 is 0
---   arc-one       the arc of 1 is `quarterTurn`
 -- Assumes nothing.
-use mathlib.Core.Path.{_≡_, refl, ap}
+use mathlib.Core.Path.{_≡_, refl}
 use mathlib.Core.Bool.{Bool, true, false, cond}
 use lib.IntN.{negsuc}
 use lib.Dec.{T}
 use lib.Ieee.{Float, fin, binary32, ofBits, add, sub, mul, div, le, lt}
 use Rattle.square_root.specs.Root.{rootOf}
-use Rattle.square_root.proofs.Laws.{root-not-below, root-half, root-nought}
+use Rattle.square_root.proofs.Laws.{root-not-below, root-half}
 use Rattle.float_order.specs.Value.{zero32, one32, two32, half32, quarter32}
 use Rattle.float_order.proofs.Fraction.{number}
 use Rattle.float_order.proofs.Order.{le-through, le-right, lt→le, not-lt}
@@ -121,12 +119,3 @@ module _ (h : Float) (i : In zero32 one32 h) where
       (λ t. record { low = i .low; high = le-through h tiny quarterTurn (lt→le h tiny t) tiny-small })
       (λ j. mid (bent-in h (mul binary32 h h) (low-half j) (square-in h (low-half j))))
       (λ j. end (near-one-in h j))
-
--- ---- single values
-pub arc-nought : arcOf zero32 ≡ zero32
-unfolding arcOf lt ofBits
-arc-nought = refl
-
-pub arc-one : arcOf one32 ≡ ofBits binary32 0x3FC9_0FDB
-unfolding arcOf nearOne bend lt ofBits add sub mul div
-arc-one = ap (λ (s : Float). sub binary32 quarterTurn (mul binary32 two32 (bent s zero32))) (root-nought false)

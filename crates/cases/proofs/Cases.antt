@@ -1,33 +1,43 @@
--- Every case of document 01, by one theorem. Assumes nothing.
-use mathlib.Core.Path.{_≡_, refl}
+-- Every case of document 01, by one theorem: each side of a row is computed, but for roots, which `root-is` and `root-nought` give. Assumes nothing.
+use mathlib.Core.Path.{refl, ap}
+use Prim.Native.Nat.{_*_, _^_}
 use mathlib.Core.List.{[], _∷_}
-use Rattle.square_root.proofs.Examples.{four, two}
-use Rattle.arc.proofs.Laws.{arc-nought, arc-one}
-use Rattle.combinations.proofs.Cases.{five-positions, six-sum-ten}
-use Rattle.key_hash.proofs.Keys.{key-case}
-use Rattle.key_list.proofs.Cases.{keys-case}
-use Rattle.pattern_catalog.proofs.Cases.{rank-five}
-use Rattle.fov_sweep.proofs.Answers.{sweep-one, sweep-quarter}
-use Rattle.preprocess.proofs.Units.{spot as spot-case}
+use mathlib.Core.Bool.{false}
+use lib.IntN.{pos, negsuc}
+use lib.Ieee.{Float, binary32, ofBits, odd, round, add, sub, mul, div, lt, le}
+use Rattle.square_root.proofs.Examples.{root-is, right}
+use Rattle.square_root.proofs.Laws.{root-nought}
+use Rattle.arc.specs.Arc.{quarterTurn, bend, bent, nearOne, arcOf}
+use Rattle.key_hash.specs.Key.{hashOf, homeOf, markOf}
+use Rattle.key_list.specs.Keys.{flat, run, spread, inRange, apart, far, atDistance, outward, farther, farthest, keysOf}
+use Rattle.combinations.specs.Lists.{each, span, upto}
+use Rattle.combinations.specs.Fours.{fours, foursOf}
+use Rattle.table_blocks.specs.Blocks.{tableFits, bitAt, onesIn, place}
+use Rattle.pattern_entry.specs.Entry.{inSection}
+use Rattle.pattern_catalog.specs.SlotRead.{slotIn, slotRead}
+use Rattle.preprocess.specs.Vectors.{normOf, overNorm, unitOf}
+use Rattle.fov_sweep.specs.Sweep.{pairAt, pairsFrom, sweepOf}
 use Rattle.undivided_run.specs.Undivided.{isSome, slotOf, filled, chain}
-use Rattle.cases.specs.Cases.{slotsRead, EveryCase}
+use Rattle.cases.specs.Cases.{f32, EveryCase}
 
-pub probes-of-ten : slotsRead ≡ 1 ∷ 2 ∷ 5 ∷ 0 ∷ 7 ∷ 6 ∷ 7 ∷ 0 ∷ 5 ∷ 2 ∷ []
-unfolding slotOf chain filled isSome
-probes-of-ten = refl
-
+-- every row of the table holds
 pub every-case : EveryCase
+unfolding hashOf homeOf markOf
+    slotOf chain filled isSome
+    fours foursOf each span upto
+    keysOf farthest farther outward atDistance far apart inRange spread run flat
+    slotRead slotIn tableFits bitAt onesIn place inSection
+    sweepOf pairsFrom pairAt
+    right odd round ofBits add sub mul div lt le
+    arcOf nearOne bend
+    unitOf overNorm normOf
 every-case =
-    record {
-      key-and-hash = key-case;
-      probes = probes-of-ten;
-      five = five-positions;
-      six = six-sum-ten;
-      keys-in-order = keys-case;
-      rank = rank-five;
-      sweep-of-one = sweep-one;
-      sweep-of-quarter = sweep-quarter;
-      root = (four, two);
-      arc = (arc-nought, arc-one);
-      spot = spot-case;
-    }
+    let root-of-four = root-is 0 (pos 2) (2 ^ 46) 127 (2 ^ 23) tt in
+    let root-of-two = root-is 0 (pos 1) (2 ^ 47) 126 0xB504F3 tt in
+    -- z of the arc of 1 is 0
+    let arc-of-one = ap (λ (s : Float). sub binary32 quarterTurn (mul binary32 (f32 2 1) (bent s (f32 0 1)))) (root-nought false) in
+    -- 3 · 0.25 is 0.75, and the norm of (0.75, 0, 1) is 1.25
+    let root-of-norm = root-is 24 (negsuc 3) (25 * 2 ^ 42) 126 (5 * 2 ^ 21) tt in
+    let spot-by-norm = ap (λ (n : Float). div binary32 (f32 3 4) n ∷ div binary32 (f32 0 1) n ∷ div binary32 (f32 1 1) n ∷ []) root-of-norm in
+    -- one part a row, in the table's order
+    ((refl, refl, refl), (refl, (refl, (refl, (refl, ((refl, refl), (refl, (refl, ((root-of-four, root-of-two), ((refl, arc-of-one), ((spot-by-norm, refl), tt)))))))))))

@@ -12,10 +12,10 @@ use Rattle.combinations.specs.Fours.{Four, Rising, foursOf, fours, sum, 
 use Rattle.combinations.specs.Claims.{FoursRise, FoursAll, FoursOnce}
 use Rattle.combinations.proofs.Lists.{all-span, all-upto, in-upto}
 
-abbrev four : ℕ → ℕ → ℕ → ℕ → Four
+abbrev pub four : ℕ → ℕ → ℕ → ℕ → Four
 four a b c d = record { a = a; b = b; c = c; d = d }
 
-all-if : (P : Four → Type 0) (x y : ℕ) (q : Four) → (x ≡ y → P q) → All P (cond (eqb x y) (q ∷ []) [])
+pub all-if : (P : Four → Type 0) (x y : ℕ) (q : Four) → (x ≡ y → P q) → All P (cond (eqb x y) (q ∷ []) [])
 all-if P x y q h = by (eqb x y) refl
   where
     by : (b : Bool) → eqb x y ≡ b → All P (cond b (q ∷ []) [])
@@ -23,7 +23,7 @@ all-if P x y q h = by (eqb x y) refl
     by false e = tt
 
 -- whatever holds of each rising four with its sum holds of all that are listed
-all-foursOf : (P : Four → Type 0) (n s : ℕ) → ((q : Four) → Rising n q → sum q ≡ s → P q) → All P (foursOf n s)
+pub all-foursOf : (P : Four → Type 0) (n s : ℕ) → ((q : Four) → Rising n q → sum q ≡ s → P q) → All P (foursOf n s)
 unfolding foursOf sum
 all-foursOf P n s h =
     all-upto P 0 n _ λ a p₁ a<.

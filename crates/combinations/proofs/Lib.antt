@@ -1,7 +1,7 @@
 pub mod Lists
 pub mod EachFour
+pub mod Order
 pub mod Walk
 pub mod Count
 pub mod Successor
 pub mod Steps
-pub mod Cases

@@ -1,4 +1,4 @@
--- Laws of lists made of a list for each element: what holds of every element, what stands in them, how long they are, what a successor walks. Assumes nothing.
+-- Laws of lists made of a list for each element: what holds of every element, their order, what stands in them, how long they are, what a successor walks. Assumes nothing.
 use mathlib.Core.Path.{_≡_, sym, _∙_, ap, subst}
 use Prim.Native.Nat.{ℕ, zero, suc, _+_, _-_, _*_, _≤_, _<_}
 use native.Mathlib.Omega.{arith}
@@ -7,7 +7,7 @@ use native.Mathlib.Decide.{decLe}
 use mathlib.Core.List.{List, [], _∷_, _++_, append-assoc}
 use mathlib.Core.Option.{Option, some}
 use lib.ListN.{length, take, length-append}
-use Rattle.combinations.specs.Lists.{each, span, upto, All, In, Follows, firstOf}
+use Rattle.combinations.specs.Lists.{each, span, upto, All, Ordered, In, Follows, firstOf}
 
 module _ {A : Type 0} (P : A → Type 0) where
   pub all-append : (xs ys : List A) → All P xs → All P ys → All P (xs ++ ys)
@@ -18,6 +18,11 @@ module _ {A : Type 0} (P : A → Type 0) where
   all-take zero xs p = tt
   all-take (suc n) [] p = tt
   all-take (suc n) (x ∷ xs) p = (p .0, all-take n xs (p .1))
+
+  -- what follows from P holds of every element too
+  pub all-weaken : {Q : A → Type 0} → ((x : A) → P x → Q x) → (xs : List A) → All P xs → All Q xs
+  all-weaken h [] p = tt
+  all-weaken h (x ∷ xs) p = (h x (p .0), all-weaken h xs (p .1))
 
   pub all-each : {B : Type 0} (Q : B → Type 0) (xs : List B) (f : B → List A) → ((x : B) → Q x → All P (f x)) → All Q xs → All P (each xs f)
   unfolding each
@@ -34,6 +39,32 @@ module _ {A : Type 0} (P : A → Type 0) where
   pub all-upto : (lo hi : ℕ) (f : ℕ → List A) → ((x : ℕ) → lo ≤ x → x < hi → All P (f x)) → All P (each (upto lo hi) f)
   unfolding upto
   all-upto lo hi f h = all-span (hi - lo) lo f λ x p q. h x p (omega arith)
+
+-- lists in order, one after the other
+module _ {A : Type 0} (R : A → A → Type 0) where
+  pub ordered-append : (xs ys : List A) → Ordered R xs → Ordered R ys → All (λ x. All (R x) ys) xs → Ordered R (xs ++ ys)
+  ordered-append [] ys p q h = q
+  ordered-append (x ∷ xs) ys p q h = (all-append (R x) xs ys (p .0) (h .0), ordered-append xs ys (p .1) q (h .1))
+
+  -- each list is in order, its elements have P of its number, and what has P of a smaller number comes before what has P of a larger one
+  pub ordered-span : (P : ℕ → A → Type 0) (m lo : ℕ) (f : ℕ → List A)
+      → ((i : ℕ) → All (P i) (f i))
+      → ((i : ℕ) → Ordered R (f i))
+      → ((i j : ℕ) (x y : A) → i < j → P i x → P j y → R x y)
+      → Ordered R (each (span lo m) f)
+  unfolding each span
+  ordered-span P zero lo f a o r = tt
+  ordered-span P (suc m) lo f a o r =
+      ordered-append (f lo) (each (span (suc lo) m) f) (o lo) (ordered-span P m (suc lo) f a o r)
+      (all-weaken (P lo) (λ x p. all-span (R x) m (suc lo) f λ j l _. all-weaken (P j) (λ y q. r lo j x y l p q) (f j) (a j)) (f lo) (a lo))
+
+  pub ordered-upto : (P : ℕ → A → Type 0) (lo hi : ℕ) (f : ℕ → List A)
+      → ((i : ℕ) → All (P i) (f i))
+      → ((i : ℕ) → Ordered R (f i))
+      → ((i j : ℕ) (x y : A) → i < j → P i x → P j y → R x y)
+      → Ordered R (each (upto lo hi) f)
+  unfolding upto
+  ordered-upto P lo hi f a o r = ordered-span P (hi - lo) lo f a o r
 
 module _ {A : Type 0} (x : A) where
   pub in-left : (xs ys : List A) → In x xs → In x (xs ++ ys)

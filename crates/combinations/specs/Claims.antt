@@ -1,10 +1,10 @@
 -- What is proved of the list of fours and of the successor; proofs/ has a proof of each under the name given beside it. Definitions only.
 use mathlib.Core.Path.{_≡_}
 use Prim.Native.Nat.{ℕ, _≤_}
-use mathlib.Core.List.{List, [], _∷_, _++_}
+use mathlib.Core.List.{List, _∷_, _++_}
 use lib.ListN.{length}
-use Rattle.combinations.specs.Lists.{All, In, Follows, firstOf}
-use Rattle.combinations.specs.Fours.{Four, Rising, fours, foursOf, times, choose}
+use Rattle.combinations.specs.Lists.{All, Ordered, In, Follows, firstOf}
+use Rattle.combinations.specs.Fours.{Four, Rising, Before, fours, times, choose}
 use Rattle.combinations.specs.Successor.{firstFour, nextFour}
 
 -- Each four that is listed rises strictly below n: `fours-rise`.
@@ -17,6 +17,13 @@ FoursAll = (n : ℕ) (q : Four) → Rising n q → In q (fours n)
 
 abbrev pub FoursOnce : Type 0
 FoursOnce = (n : ℕ) (q : Four) → Rising n q → times q (fours n) ≡ 1
+
+-- "listed by sum and within a sum lexicographically": each comes before every later one: `fours-ordered`; and no four comes before itself: `before-another`.
+abbrev pub FoursOrdered : Type 0
+FoursOrdered = (n : ℕ) → Ordered Before (fours n)
+
+abbrev pub BeforeAnother : Type 0
+BeforeAnother = (q : Four) → Before q q → ⊥
 
 -- There are n choose 4 of them: `fours-count`; at most 635,376 for n at most 64: `fours-64`.
 abbrev pub FoursCount : Type 0
@@ -32,14 +39,3 @@ WalksFours = (n : ℕ) → Follows (nextFour n) (firstFour n) (fours n)
 -- So the four after q is what stands after q in the list: `next-is-next`.
 abbrev pub NextIsNext : Type 0
 NextIsNext = (n : ℕ) (before : List Four) (q : Four) (after : List Four) → fours n ≡ before ++ q ∷ after → nextFour n q ≡ firstOf after
-
-abbrev four : ℕ → ℕ → ℕ → ℕ → Four
-four a b c d = record { a = a; b = b; c = c; d = d }
-
--- Five positions: 0123, 0124, 0134, 0234, 1234: `five-positions`.
-abbrev pub FivePositions : Type 0
-FivePositions = fours 5 ≡ four 0 1 2 3 ∷ four 0 1 2 4 ∷ four 0 1 3 4 ∷ four 0 2 3 4 ∷ four 1 2 3 4 ∷ []
-
--- Six, sum 10: 0145, 0235, 1234: `six-sum-ten`.
-abbrev pub SixSumTen : Type 0
-SixSumTen = foursOf 6 10 ≡ four 0 1 4 5 ∷ four 0 2 3 5 ∷ four 1 2 3 4 ∷ []

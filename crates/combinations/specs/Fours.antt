@@ -1,4 +1,6 @@
 -- "Four positions in the kept list after its cut, strictly rising, listed by sum and within a sum lexicographically." Definitions only.
+use mathlib.Core.Path.{_≡_}
+use mathlib.Core.Logic.{_⊎_}
 use Prim.Native.Nat.{ℕ, zero, suc, _+_, _*_, _<_}
 use mathlib.Core.List.{List, [], _∷_}
 use mathlib.Core.Bool.{Bool, cond, _&&_}
@@ -16,6 +18,18 @@ pub record Rising (n : ℕ) (q : Four) : Type 0 where
 -- the sum of a four's positions
 unfoldable pub sum : Four → ℕ
 sum q = q .a + q .b + q .c + q .d
+
+-- q is lexicographically smaller than p: the first position in which they differ is the smaller one in q
+abbrev pub Smaller : Four → Four → Type 0
+Smaller q p =
+    (q .a < p .a)
+    ⊎ (((q .a ≡ p .a) × (q .b < p .b))
+    ⊎ (((q .a ≡ p .a) × (q .b ≡ p .b) × (q .c < p .c))
+    ⊎ ((q .a ≡ p .a) × (q .b ≡ p .b) × (q .c ≡ p .c) × (q .d < p .d))))
+
+-- q comes before p: by sum, and within a sum lexicographically
+abbrev pub Before : Four → Four → Type 0
+Before q p = (sum q < sum p) ⊎ ((sum q ≡ sum p) × Smaller q p)
 
 -- all a < b < c < d < n with the sum s, lexicographically
 unfoldable pub foursOf : ℕ → ℕ → List Four

@@ -23,6 +23,11 @@ abbrev pub All : {A : Type 0} → (A → Type 0) → List A → Type 0
 All P [] = Unit {0}
 All P (x ∷ xs) = P x × All P xs
 
+-- R holds of each element and every later one, not only of neighbours
+abbrev pub Ordered : {A : Type 0} → (A → A → Type 0) → List A → Type 0
+Ordered R [] = Unit {0}
+Ordered R (x ∷ xs) = All (R x) xs × Ordered R xs
+
 -- x stands in the list
 abbrev pub In : {A : Type 0} → A → List A → Type 0
 In {A} x xs = (pre : List A) × (post : List A) × (xs ≡ pre ++ x ∷ post)

@@ -112,18 +112,20 @@ pub fn first_four(n: u32) -> MaybeFour
     from_sum(n, 0)
 }
 
-// The four after q. Most often the third goes up by one and the fourth down by one.
-pub fn next_four(n: u32, q: Four) -> MaybeFour
-    requires { ⌜ (n ≤ 64) × Rising n q ⌝ }
-    ensures { λ r. ⌜ maybeOf r ≡ nextFour n q ⌝ }
-{
-    if q.c + 2 < q.d {
-        return MaybeFour::Next(Four {
-            a: q.a,
-            b: q.b,
-            c: q.c + 1,
-            d: q.d - 1,
-        });
+impl Four {
+    // The combination after this one, of so many kept spots. Most often the third goes up by one and the fourth down by one.
+    pub fn next(self, kept: u32) -> MaybeFour
+        requires { ⌜ (kept ≤ 64) × Rising kept self ⌝ }
+        ensures { λ r. ⌜ maybeOf r ≡ nextFour kept self ⌝ }
+    {
+        if self.c + 2 < self.d {
+            return MaybeFour::Next(Four {
+                a: self.a,
+                b: self.b,
+                c: self.c + 1,
+                d: self.d - 1,
+            });
+        }
+        from_b(kept, self.a + self.b + self.c + self.d, self.a, self.b + 1)
     }
-    from_b(n, q.a + q.b + q.c + q.d, q.a, q.b + 1)
 }

@@ -9,7 +9,7 @@ use image_vectors::image_vectors;
 use image_vectors::matched;
 use image_vectors::pixel_scale;
 
-// Three components of a direction: an array of arrays can't be a struct's field.
+// Three components of a direction: of a field that is an array of arrays the kit writes no part of the proof.
 pub struct Row {
     pub c: [f32; 3],
 }

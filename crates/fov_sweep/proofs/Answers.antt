@@ -1,13 +1,13 @@
--- The code's answer as document 01's, and its two cases. Assumes nothing.
+-- The code's answer as document 01's. Assumes nothing.
 use mathlib.Core.Path.{_≡_, refl, _∙_, ap, ap₂}
 use mathlib.Core.Bool.{Bool, true, false, cond, _&&_}
 use mathlib.Core.List.{List, _++_}
 use lib.ListN.{length, drop}
 use lib.Seq.{take-append-seam}
-use lib.Ieee.{Float, ofBits, add, sub, lt, le}
-use Rattle.fov_sweep.specs.Sweep.{pairAt, pairsFrom, sweepOf, sweepFits, listFits, sweptOf, laterOf}
+use lib.Ieee.{Float}
+use Rattle.fov_sweep.specs.Sweep.{sweepOf, sweepFits, listFits, sweptOf, laterOf}
 use Rattle.fov_sweep.specs.Answers.{refused, values, sweptSays, sweeping}
-use Rattle.fov_sweep.specs.Claims.{SaysTheAnswer, SweepOne, SweepQuarter}
+use Rattle.fov_sweep.specs.Claims.{SaysTheAnswer}
 use Rattle.tolerance.specs.declared.Tolerance.{Tolerance}
 use Rattle.fov_sweep.specs.declared.Swept.{Swept}
 use Rattle.fov_sweep.specs.declared.Swept.the-variants.{Values, Refused}
@@ -26,11 +26,3 @@ says-the-answer estimate error step before = by (sweepFits estimate error step) 
 -- .. by the two equations of its contract
 pub says-by : (estimate : Float) (error : Tolerance) (step : Float) (before : List Float) (r : Swept) (later : List Float) → (r ≡ sweptOf estimate error step (length before)) × (later ≡ laterOf estimate error step before) → sweptSays r later ≡ sweeping estimate error step (length before)
 says-by estimate error step before r later h = ap₂ sweptSays (h .0) (h .1) ∙ says-the-answer estimate error step before
-
-pub sweep-one : SweepOne
-unfolding sweepOf pairsFrom pairAt ofBits add sub lt le
-sweep-one = refl
-
-pub sweep-quarter : SweepQuarter
-unfolding sweepOf pairsFrom pairAt ofBits add sub lt le
-sweep-quarter = refl

@@ -2,7 +2,7 @@
 use mathlib.Core.Path.{_≡_, refl, sym, ap, ap₂, _∙_, subst}
 use Prim.Native.Nat.{ℕ, suc, _+_, _*_, _≤_, _<_}
 use native.Mathlib.Omega.{arith}
-use mathlib.Core.Bool.{Bool, true, false}
+use mathlib.Core.Bool.{Bool, true, false, cond}
 use mathlib.Core.List.{List, []}
 use mathlib.Core.Logic.{_⊎_, inl, inr}
 use lib.IntN.{pos}
@@ -15,7 +15,7 @@ use Rattle.combinations.specs.Fours.{Rising}
 use Rattle.combinations.specs.declared.Four.{Four}
 use Rattle.pattern.specs.Edges.{angle, angles}
 use Rattle.pattern.proofs.Same.{same-three, same-six}
-use Rattle.kept_angles.specs.Measures.{rowAt, threeOf, directionAt, unset, angleIn, sixIn, AnglesHeld, fourAt, Still}
+use Rattle.kept_angles.specs.Measures.{rowAt, threeOf, directionAt, unset, angleIn, sixIn, AnglesHeld, fourAt, knownOr, anglesBeside, Still}
 use Rattle.kept_angles.proofs.Places.{row-after, place-inside, same-place}
 
 -- a store behind a direction leaves it
@@ -65,6 +65,33 @@ six-right m q r h v e above =
     not-below : (k : ℕ) → k < 6 → lt (getD (sixIn m q) k nan) zero32 ≡ false
     not-below k l = ap (λ (w : List Float). lt (getD w k nan) zero32) (sym e) ∙ above k l
 
+-- either of two equal values
+either : (b : Bool) (x y : Float) → y ≡ x → cond b x y ≡ x
+either true x y e = refl
+either false x y e = e
+
+-- what is kept, or worked out where it is unset, is the angle
+beside-right : (n : ℕ) (m : List Float) (i j : ℕ) → AnglesHeld n m → i < j → j < n → knownOr (angleIn m i j) (directionAt m i) (directionAt m j) ≡ angle (directionAt m i) (directionAt m j)
+unfolding knownOr
+beside-right n m i j h l p = elim (h .each i j l p) [
+  | inl e ↦ ap (λ (b : Bool). cond b (angle (directionAt m i) (directionAt m j)) (angleIn m i j)) (unset-below (angleIn m i j) e)
+  | inr e ↦ either (lt (angleIn m i j) zero32) (angle (directionAt m i) (directionAt m j)) (angleIn m i j) e
+]
+
+pub six-beside : (m : List Float) (q : Four) → Rising 64 q → AnglesHeld (suc (q .d)) m → anglesBeside (fourAt m q) (sixIn m q) ≡ angles (fourAt m q)
+unfolding angles anglesBeside
+six-beside m q r h =
+    same-six
+    (right (q .a) (q .b) (omega (arith, r .ab)) (omega (arith, r .bc, r .cd)))
+    (right (q .a) (q .c) (omega (arith, r .ab, r .bc)) (omega (arith, r .cd)))
+    (right (q .a) (q .d) (omega (arith, r .ab, r .bc, r .cd)) (omega arith))
+    (right (q .b) (q .c) (omega (arith, r .bc)) (omega (arith, r .cd)))
+    (right (q .b) (q .d) (omega (arith, r .bc, r .cd)) (omega arith))
+    (right (q .c) (q .d) (omega (arith, r .cd)) (omega arith))
+  where
+    right : (i j : ℕ) → i < j → j < suc (q .d) → knownOr (angleIn m i j) (directionAt m i) (directionAt m j) ≡ angle (directionAt m i) (directionAt m j)
+    right i j = beside-right (suc (q .d)) m i j h
+
 pub still-same : (m : List Float) → length m ≡ 2208 → Still m m
 still-same m l = record { directions = λ k p. refl; held = λ n h. h; long = l }
 
@@ -74,6 +101,15 @@ still-on m m' m'' s t = record { directions = λ k p. t .directions k p ∙ s .d
 -- the angle of two directions that stayed
 pub still-angle : (m m' : List Float) (i j : ℕ) → Still m m' → i < 64 → j < 64 → angle (directionAt m' i) (directionAt m' j) ≡ angle (directionAt m i) (directionAt m j)
 still-angle m m' i j s l p = ap₂ angle (s .directions i l) (s .directions j p)
+
+-- what the next store asks, after others
+pub asked-again : (m m' : List Float) (i j : ℕ) (w : Float) → Still m m' → i < j → j < 64 → w ≡ angle (directionAt m i) (directionAt m j)
+    → (i < j) × (j < 64) × (length m' ≡ 2208) × (w ≡ angle (directionAt m' i) (directionAt m' j))
+asked-again m m' i j w s l p e = (l, p, s .long, e ∙ sym (still-angle m m' i j s (omega arith) p))
+
+-- six angles that were worked out beside what is kept
+pub six-are : (m : List Float) (q : Four) → Rising 64 q → AnglesHeld (suc (q .d)) m → (v : List (List Float)) (known six : List Float) → v ≡ fourAt m q → known ≡ sixIn m q → six ≡ anglesBeside v known → six ≡ angles (fourAt m q)
+six-are m q r h v known six a b c = c ∙ ap₂ anglesBeside a b ∙ six-beside m q r h
 
 -- an angle stored at its place
 module _ (m : List Float) (i j : ℕ) (w : Float) (l : i < j) (p : j < 64) (long : length m ≡ 2208) (right : w ≡ angle (directionAt m i) (directionAt m j)) where

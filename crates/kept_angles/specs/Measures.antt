@@ -1,12 +1,13 @@
 -- The array of directions and angles: what stands where. Definitions only.
 use mathlib.Core.Path.{_≡_}
 use Prim.Native.Nat.{ℕ, zero, suc, _+_, _*_, _≤_, _<_}
-use mathlib.Core.Bool.{true}
+use mathlib.Core.Bool.{true, cond}
 use mathlib.Core.List.{List, [], _∷_}
 use mathlib.Core.Logic.{_⊎_}
 use lib.IntN.{pos}
 use lib.ListN.{length, getD}
-use lib.Ieee.{Float, nan, fin}
+use lib.Ieee.{Float, nan, fin, lt}
+use Rattle.float_order.specs.Value.{zero32}
 use Rattle.combinations.specs.declared.Four.{Four}
 use Rattle.pattern.specs.Edges.{angle}
 
@@ -59,3 +60,18 @@ pub record Laid (dirs : List (List Float)) (n : ℕ) (m : List Float) : Type 0 w
   pub directions : (k : ℕ) → k < n → directionAt m k ≡ threeOf (getD dirs k [])
   pub held : AnglesHeld n m
   pub long : length m ≡ 2208
+
+-- the angle of two directions: the one that is known, or worked out where that is below 0
+unfoldable pub knownOr : Float → List Float → List Float → Float
+knownOr known a b = cond (lt known zero32) (angle a b) known
+
+-- .. of the six pairs of four directions, in the source's order
+unfoldable pub anglesBeside : List (List Float) → List Float → List Float
+anglesBeside v known =
+    knownOr (getD known 0 nan) (getD v 0 []) (getD v 1 [])
+    ∷ knownOr (getD known 1 nan) (getD v 0 []) (getD v 2 [])
+    ∷ knownOr (getD known 2 nan) (getD v 0 []) (getD v 3 [])
+    ∷ knownOr (getD known 3 nan) (getD v 1 []) (getD v 2 [])
+    ∷ knownOr (getD known 4 nan) (getD v 1 []) (getD v 3 [])
+    ∷ knownOr (getD known 5 nan) (getD v 2 []) (getD v 3 [])
+    ∷ []

@@ -9,7 +9,7 @@ ghost use lib.Ieee.{lt, nan};
 ghost use Rattle.float_order.specs.Value.{zero32};
 ghost use Rattle.pattern.specs.Edges.{angle, angles};
 ghost use Rattle.combinations.specs.Fours.{Rising};
-ghost use Rattle.kept_angles.specs.Measures.{rowAt, directionAt, threeOf, angleIn, sixIn, fourAt, AnglesHeld, Laid, Still};
+ghost use Rattle.kept_angles.specs.Measures.{rowAt, directionAt, threeOf, angleIn, sixIn, fourAt, knownOr, anglesBeside, AnglesHeld, Laid, Still};
 use combinations::Four;
 
 // Where the angles of position j with those before it begin: after 192 numbers of directions and the angles of the positions before j.
@@ -32,22 +32,52 @@ fn direction_at(measures: &[f32; 2208], k: usize) -> [f32; 3]
     [x, y, z]
 }
 
-// The angle of positions i and j, worked out and kept when first asked for.
-fn angle_at(measures: &mut [f32; 2208], i: usize, j: usize) -> f32
-    requires { ⌜ (i < j) × AnglesHeld (suc j) (now measures) × (length (now measures) ≡ 2208) ⌝ }
-    ensures { λ r. ⌜ r ≡ angle (directionAt (now (measures .entry)) i) (directionAt (now (measures .entry)) j) ⌝ }
-    ensures { λ _. ⌜ Still (now (measures .entry)) (now (measures .exit)) ⌝ }
+// The directions at four positions.
+fn four_at(measures: &[f32; 2208], q: Four) -> [[f32; 3]; 4]
+    requires { ⌜ Rising 64 q × (length (now measures) ≡ 2208) ⌝ }
+    ensures { λ r. ⌜ r ≡ fourAt (now (measures .entry)) q ⌝ }
 {
-    let at = row(j) + i;
-    let known = measures[at];
+    let a = direction_at(measures, q.a as usize);
+    let b = direction_at(measures, q.b as usize);
+    let c = direction_at(measures, q.c as usize);
+    let d = direction_at(measures, q.d as usize);
+    [a, b, c, d]
+}
+
+// The angle of two directions: the one that is known, or worked out where that is below 0.
+fn known_or(known: f32, a: [f32; 3], b: [f32; 3]) -> f32
+    ensures { λ r. ⌜ r ≡ knownOr known a b ⌝ }
+{
     if known < 0.0 {
-        let a = direction_at(&*measures, i);
-        let b = direction_at(&*measures, j);
-        let worked = pattern::angle(a, b);
-        measures[at] = worked;
-        return worked;
+        return pattern::angle(a, b);
     }
     known
+}
+
+// The angles of the six pairs of four directions, in the source's order; those that are known are taken as they are.
+fn edge_angles(v: [[f32; 3]; 4], known: [f32; 6]) -> [f32; 6]
+    ensures { λ r. ⌜ r ≡ anglesBeside v known ⌝ }
+{
+    let a = v[0];
+    let b = v[1];
+    let c = v[2];
+    let d = v[3];
+    let ab = known_or(known[0], a, b);
+    let ac = known_or(known[1], a, c);
+    let ad = known_or(known[2], a, d);
+    let bc = known_or(known[3], b, c);
+    let bd = known_or(known[4], b, d);
+    let cd = known_or(known[5], c, d);
+    [ab, ac, ad, bc, bd, cd]
+}
+
+// Keeps the angle w of positions i and j.
+fn keep(measures: &mut [f32; 2208], i: u32, j: u32, w: f32)
+    requires { ⌜ (i < j) × (j < 64) × (length (now measures) ≡ 2208) × (w ≡ angle (directionAt (now measures) i) (directionAt (now measures) j)) ⌝ }
+    ensures { λ _. ⌜ Still (now (measures .entry)) (now (measures .exit)) ⌝ }
+{
+    let at = row(j as usize) + i as usize;
+    measures[at] = w;
 }
 
 // What is kept for positions i and j: their angle, or -1.
@@ -73,25 +103,6 @@ fn all_known(v: [f32; 6]) -> bool
     true
 }
 
-// The six angles, each worked out if it isn't yet.
-fn six_asked(measures: &mut [f32; 2208], q: Four) -> [f32; 6]
-    requires { ⌜ Rising 64 q × AnglesHeld (suc (q .d)) (now measures) × (length (now measures) ≡ 2208) ⌝ }
-    ensures { λ r. ⌜ r ≡ angles (fourAt (now (measures .entry)) q) ⌝ }
-    ensures { λ _. ⌜ Still (now (measures .entry)) (now (measures .exit)) ⌝ }
-{
-    let a = q.a as usize;
-    let b = q.b as usize;
-    let c = q.c as usize;
-    let d = q.d as usize;
-    let ab = angle_at(measures, a, b);
-    let ac = angle_at(measures, a, c);
-    let ad = angle_at(measures, a, d);
-    let bc = angle_at(measures, b, c);
-    let bd = angle_at(measures, b, d);
-    let cd = angle_at(measures, c, d);
-    [ab, ac, ad, bc, bd, cd]
-}
-
 // What is kept for the six pairs of four positions, in the source's order.
 fn six_kept(measures: &[f32; 2208], q: Four) -> [f32; 6]
     requires { ⌜ Rising 64 q × (length (now measures) ≡ 2208) ⌝ }
@@ -106,6 +117,23 @@ fn six_kept(measures: &[f32; 2208], q: Four) -> [f32; 6]
     [ab, ac, ad, bc, bd, cd]
 }
 
+// The six angles, those that aren't kept yet worked out from the four directions, and kept.
+fn six_asked(measures: &mut [f32; 2208], q: Four, kept: [f32; 6]) -> [f32; 6]
+    requires { ⌜ Rising 64 q × AnglesHeld (suc (q .d)) (now measures) × (length (now measures) ≡ 2208) × (kept ≡ sixIn (now measures) q) ⌝ }
+    ensures { λ r. ⌜ r ≡ angles (fourAt (now (measures .entry)) q) ⌝ }
+    ensures { λ _. ⌜ Still (now (measures .entry)) (now (measures .exit)) ⌝ }
+{
+    let v = four_at(&*measures, q);
+    let six = edge_angles(v, kept);
+    keep(measures, q.a, q.b, six[0]);
+    keep(measures, q.a, q.c, six[1]);
+    keep(measures, q.a, q.d, six[2]);
+    keep(measures, q.b, q.c, six[3]);
+    keep(measures, q.b, q.d, six[4]);
+    keep(measures, q.c, q.d, six[5]);
+    six
+}
+
 // The angles of the six pairs of four positions, in the source's order: as they are kept where all six are known.
 pub fn six_angles(measures: &mut [f32; 2208], q: Four) -> [f32; 6]
     requires { ⌜ Rising 64 q × AnglesHeld (suc (q .d)) (now measures) × (length (now measures) ≡ 2208) ⌝ }
@@ -116,7 +144,7 @@ pub fn six_angles(measures: &mut [f32; 2208], q: Four) -> [f32; 6]
     if all_known(kept) {
         return kept;
     }
-    six_asked(measures, q)
+    six_asked(measures, q, kept)
 }
 
 // The first n directions, laid into the array.

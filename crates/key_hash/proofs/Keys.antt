@@ -1,6 +1,6 @@
--- The key of rising ratios, and the paper's case. Assumes nothing.
+-- The key of rising ratios. Assumes nothing.
 use Prim.Native.Nat.{ℕ, _≤_, _<_}
-use mathlib.Core.Path.{_≡_, refl}
+use mathlib.Core.Path.{_≡_}
 use mathlib.Core.List.{List, [], _∷_}
 use lib.ListN.{getD}
 use lib.Ieee.{Float, nan}
@@ -9,8 +9,8 @@ use Rattle.float_order.specs.KeyPart.{partOf}
 use Rattle.float_order.specs.Ratios.{Ratio}
 use Rattle.float_order.proofs.Intervals.{in-finite}
 use Rattle.float_order.proofs.KeyParts.{part-at-most, parts-never-fall}
-use Rattle.key_hash.specs.Key.{keyOf, hashOf, homeOf, markOf}
-use Rattle.key_hash.specs.Claims.{KeyParts, KeyRises, KeyCase}
+use Rattle.key_hash.specs.Key.{keyOf}
+use Rattle.key_hash.specs.Claims.{KeyParts, KeyRises}
 
 -- keys that are equal part by part
 pub same-five : {a b c d e a' b' c' d' e' : ℕ} → a ≡ a' → b ≡ b' → c ≡ c' → d ≡ d' → e ≡ e' → _≡_ {A = List ℕ} (a ∷ b ∷ c ∷ d ∷ e ∷ []) (a' ∷ b' ∷ c' ∷ d' ∷ e' ∷ [])
@@ -40,7 +40,3 @@ key-rises r B i p l = (
   parts-never-fall (getD r 2 nan) (getD r 3 nan) B (i .rise .2) p l,
   parts-never-fall (getD r 3 nan) (getD r 4 nan) B (i .rise .3) p l,
 )
-
-pub key-case : KeyCase
-unfolding hashOf homeOf markOf
-key-case = (refl, refl, refl)

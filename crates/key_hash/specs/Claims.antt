@@ -1,11 +1,10 @@
 -- What callers rest on, as statements; proofs/ has a proof of each under the name given beside it. Definitions only.
 use Prim.Native.Nat.{ℕ, _^_, _≤_, _<_}
-use mathlib.Core.Path.{_≡_}
-use mathlib.Core.List.{List, [], _∷_}
+use mathlib.Core.List.{List}
 use lib.ListN.{getD}
 use lib.Ieee.{Float}
 use Rattle.float_order.specs.Ratios.{Ratios}
-use Rattle.key_hash.specs.Key.{keyOf, hashOf, homeOf, markOf, Parts}
+use Rattle.key_hash.specs.Key.{keyOf, hashOf, Parts}
 
 -- Of ratios that rise within [0, 1], no key part is above bins and none is below the one before it: `key-parts`, `key-rises`.
 abbrev pub KeyParts : Type 0
@@ -21,7 +20,3 @@ KeyRises = (r : List Float) (B : ℕ) → Ratios r → 0 < B → B ≤ 4096
 -- A hash is below 2 ^ 62, so its sum never wraps: `hash-below`.
 abbrev pub HashBelow : Type 0
 HashBelow = (k : List ℕ) (B : ℕ) → Parts k B → hashOf k B < 2 ^ 62
-
--- "Bins 25, key (1,2,3,4,5): hash 2,017,551, mark 51,471, home 311 of 1,000.": `key-case`.
-abbrev pub KeyCase : Type 0
-KeyCase = let hash = hashOf (1 ∷ 2 ∷ 3 ∷ 4 ∷ 5 ∷ []) 25 in (hash ≡ 2017551) × (markOf hash ≡ 51471) × (homeOf hash 1000 ≡ 311)

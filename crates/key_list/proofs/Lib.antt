@@ -5,4 +5,3 @@ pub mod Exact
 pub mod Near
 pub mod Outward
 pub mod Unique
-pub mod Cases

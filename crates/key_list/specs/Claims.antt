@@ -1,7 +1,7 @@
 -- What callers rest on, as statements; proofs/ has a proof of each under the name given beside it. Definitions only.
 use Prim.Native.Nat.{ℕ}
 use mathlib.Core.Path.{_≡_}
-use mathlib.Core.List.{List, [], _∷_}
+use mathlib.Core.List.{List}
 use Rattle.key_list.specs.Keys.{keysOf}
 use Rattle.key_list.specs.Listed.{Has, Listed, Precedes, Ordered}
 
@@ -24,10 +24,3 @@ PrecedesAnother = (c k : List ℕ) → Precedes c k k → ⊥
 -- So it is the only list in that order with just those keys: `keys-unique`.
 abbrev pub KeysUnique : Type 0
 KeysUnique = (c lo hi : List ℕ) (l : List (List ℕ)) → Ordered (Precedes c) l → ((k : List ℕ) → Has k l → Listed lo hi k) → ((k : List ℕ) → Listed lo hi k → Has k l) → l ≡ keysOf c lo hi
-
--- "Keys 33333 to 44444, centre 33444: 33444, 33344, 34444, 33334, 44444, 33333.": `keys-case`.
-abbrev pub key : ℕ → ℕ → ℕ → ℕ → ℕ → List ℕ
-key a b c d e = a ∷ b ∷ c ∷ d ∷ e ∷ []
-
-abbrev pub KeysCase : Type 0
-KeysCase = keysOf (key 3 3 4 4 4) (key 3 3 3 3 3) (key 4 4 4 4 4) ≡ key 3 3 4 4 4 ∷ key 3 3 3 4 4 ∷ key 3 4 4 4 4 ∷ key 3 3 3 3 4 ∷ key 4 4 4 4 4 ∷ key 3 3 3 3 3 ∷ []

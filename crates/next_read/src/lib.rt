@@ -36,7 +36,7 @@ fn after_four(
     ensures { λ r. ⌜ DeskAfter (frameOf (now (centroids .entry)) (now (order .entry)) config (now (passes .entry))) held (r .held) (now (places .exit)) (now (measures .exit)) ⌝ }
 {
     let four = p.four;
-    match combinations::next_four(held.kept, four) {
+    match four.next(held.kept) {
         MaybeFour::Next(q) => {
             let cap = config.cap;
             Reached {

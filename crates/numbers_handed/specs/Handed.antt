@@ -2,6 +2,7 @@
 use Prim.Native.Nat.{ℕ}
 use mathlib.Core.Bool.{Bool, cond}
 use mathlib.Core.List.{[], _∷_}
+use lib.Dec.{eqb}
 use lib.ListN.{getD}
 use Rattle.undivided_run.specs.declared.Position.{Position}
 use Rattle.undivided_run.specs.declared.State.{State}
@@ -81,13 +82,17 @@ candidateNumbers c =
       reserved = 0;
     }
 
+-- the state handed back with "allowance used": allowance 0 changes nothing, so the state comes back as received, unused numbers too; else it is made anew
+abbrev pub usedState : ℕ → StarState → StarState → StarState
+usedState allowance raw s = cond (eqb allowance 0) raw s
+
 -- a call's answer: 0 a candidate, 1 the allowance used, 2 ended with the number of its status, 3 refused with the question's number and the state as received
-abbrev pub answerWith : Said → StarState → StarCandidate → StarState → StarAnswer
-answerWith Said.Candidate raw c s = record { answer = 0; number = 0; candidate = c; state = s }
-answerWith Said.AllowanceUsed raw c s = record { answer = 1; number = 0; candidate = c; state = s }
-answerWith (Said.Ended t) raw c s = record { answer = 2; number = statusNumber t; candidate = c; state = s }
-answerWith (Said.Refused n) raw c s = record { answer = 3; number = n; candidate = c; state = raw }
+abbrev pub answerWith : Said → ℕ → StarState → StarCandidate → StarState → StarAnswer
+answerWith Said.Candidate allowance raw c s = record { answer = 0; number = 0; candidate = c; state = s }
+answerWith Said.AllowanceUsed allowance raw c s = record { answer = 1; number = 0; candidate = c; state = usedState allowance raw s }
+answerWith (Said.Ended t) allowance raw c s = record { answer = 2; number = statusNumber t; candidate = c; state = s }
+answerWith (Said.Refused n) allowance raw c s = record { answer = 3; number = n; candidate = c; state = raw }
 
 -- .. of what a search returned, `raw` being the state as received
-abbrev pub answerOf : StarState → Searched → StarAnswer
-answerOf raw r = answerWith (r .answer) raw (candidateNumbers (r .candidate)) (stateNumbers (r .state))
+abbrev pub answerOf : StarState → ℕ → Searched → StarAnswer
+answerOf raw allowance r = answerWith (r .answer) allowance raw (candidateNumbers (r .candidate)) (stateNumbers (r .state))

@@ -1,6 +1,6 @@
 // What a search hands over to a host in C: its answer as plain numbers, by the definitions that give document 01's numbers.
 ghost use mathlib.Core.Path.{_≡_};
-ghost use Rattle.numbers_handed.specs.Handed.{statusNumber, plainNumbers, atNumbers, stateNumbers, candidateNumbers, answerOf};
+ghost use Rattle.numbers_handed.specs.Handed.{statusNumber, plainNumbers, atNumbers, stateNumbers, candidateNumbers, usedState, answerOf};
 use candidates::Candidate;
 use pattern_search::Answer;
 use pattern_search::Searched;
@@ -91,9 +91,16 @@ fn candidate_numbers(c: Candidate) -> StarCandidate
     }
 }
 
-// A call's answer; `raw` is the state received, which a refusal hands back as it came.
-pub fn answer_of(raw: StarState, r: Searched) -> StarAnswer
-    ensures { λ a. ⌜ a ≡ answerOf raw r ⌝ }
+// The state handed back with "allowance used": as received where the allowance is 0, which changes nothing; else made anew.
+fn used_state(allowance: u64, raw: StarState, made: StarState) -> StarState
+    ensures { λ r. ⌜ r ≡ usedState allowance raw made ⌝ }
+{
+    if allowance == 0 { raw } else { made }
+}
+
+// A call's answer; `raw` is the state received, which a refusal hands back as it came, and so does a call that makes no read and isn't ended.
+pub fn answer_of(raw: StarState, allowance: u64, r: Searched) -> StarAnswer
+    ensures { λ a. ⌜ a ≡ answerOf raw allowance r ⌝ }
 {
     let said = r.answer;
     let c = r.candidate;
@@ -107,12 +114,15 @@ pub fn answer_of(raw: StarState, r: Searched) -> StarAnswer
             candidate,
             state,
         },
-        Answer::AllowanceUsed => StarAnswer {
-            answer: 1,
-            number: 0,
-            candidate,
-            state,
-        },
+        Answer::AllowanceUsed => {
+            let left = used_state(allowance, raw, state);
+            StarAnswer {
+                answer: 1,
+                number: 0,
+                candidate,
+                state: left,
+            }
+        }
         Answer::Ended(t) => StarAnswer {
             answer: 2,
             number: status_number(t),

@@ -2,4 +2,3 @@ pub mod Answers
 pub mod Placed
 pub mod SlotRead
 pub mod Claims
-pub mod Cases

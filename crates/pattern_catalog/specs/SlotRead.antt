@@ -1,5 +1,5 @@
 -- The slot read. Definitions only. Document 01: "The slot read: 6, then 11 (is the slot below the slot count?), then 9 for the section only."
-use Prim.Native.Nat.{ℕ}
+use Prim.Native.Nat.{ℕ, _*_}
 use mathlib.Core.Bool.{cond}
 use mathlib.Core.List.{List, []}
 use lib.Dec.{ltb}
@@ -21,3 +21,9 @@ abbrev pub sectionPart : List ℕ → Answer → List ℕ
 sectionPart packed (filledAt p) = bytesAt packed p
 sectionPart packed empty = []
 sectionPart packed (refused n) = []
+
+-- where in the section the part begins: 22 bytes an entry before its own place; an empty part stands at the section's begin
+abbrev pub partStart : Answer → ℕ
+partStart (filledAt p) = p * 22
+partStart empty = 0
+partStart (refused n) = 0

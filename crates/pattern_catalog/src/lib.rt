@@ -3,7 +3,7 @@ ghost use mathlib.Core.Path.{_≡_};
 ghost use Prim.Native.Nat.{_+_, _*_, _/_, _≤_};
 ghost use lib.ListN.{length};
 ghost use Rattle.pattern_catalog.specs.Answers.{foundSays, slotSays};
-ghost use Rattle.pattern_catalog.specs.SlotRead.{slotIn, slotRead, sectionPart};
+ghost use Rattle.pattern_catalog.specs.SlotRead.{slotIn, slotRead, sectionPart, partStart};
 ghost use Rattle.pattern_catalog.specs.Placed.{foundBy, PlaceKnown};
 ghost use Rattle.block_ranks.specs.Places.{rankedAt};
 use block_ranks::Ranked;
@@ -102,6 +102,7 @@ pub fn slot_of(slots: u64, words: &[u64], packed: &[u8], slot: u64) -> Slot
 // The entry's own 22 bytes of the lent section, or an empty part of it.
 pub fn entry_of<'a>(slots: u64, words: &[u64], packed: &'a [u8], slot: u64) -> &'a [u8]
     ensures { λ r. ⌜ now r ≡ sectionPart (now (packed .entry)) (slotRead slots (now (words .entry)) (now (packed .entry)) slot) ⌝ }
+    ensures { λ r. ⌜ (r .ptr .0 ≡ packed .entry .ptr .0) × (r .ptr .1 ≡ partStart (slotRead slots (now (words .entry)) (now (packed .entry)) slot) + packed .entry .ptr .1) ⌝ }
 {
     match find(slots, words, packed, slot) {
         Found::At(p) => {

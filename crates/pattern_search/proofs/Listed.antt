@@ -19,12 +19,12 @@ use Rattle.opening.proofs.Passed.{passed}
 use Rattle.undivided_run.specs.declared.State.{State}
 use Rattle.undivided_run.specs.declared.Status.{Status}
 use Rattle.undivided_run.specs.declared.Next.the-variants.{Ends}
-use Rattle.run_claims.proofs.Progress.{progress-any, used-exactly}
+use Rattle.run_claims.proofs.Progress.{progress-any, used-exactly, zero-keeps}
 use Rattle.undivided_run.specs.declared.Position.{Position}
 use Rattle.undivided_run.specs.Undivided.{cases, gives}
 use Rattle.undivided_run.specs.Calls.{candidate, over, refused, calls, found}
 use Rattle.undivided_run.specs.Step.{Lent, start, look, firstRead, soundAt, search, searchCall, refusalOf, nineOf}
-use Rattle.run_claims.specs.Listing.{FairList, MovesOn}
+use Rattle.run_claims.specs.Listing.{FairList, MovesOn, NoReadMade}
 use Rattle.undivided_run.specs.Exists.{Here, Keyed}
 use Rattle.undivided_run.specs.Eight.{eightOk}
 use Rattle.run_claims.proofs.Demand3.{KeyedList, demand3, moves-after, eight, never-nine}
@@ -36,8 +36,8 @@ use Rattle.search_feed.proofs.Limits.{every-four-keyed, within-limits}
 use Rattle.search_feed.proofs.Sound.{opened-sound}
 use Rattle.search_questions.specs.Questions.{firstSeven, firstNo}
 use Rattle.pattern_search.specs.Answers.{lentOf, searchedSays}
-use Rattle.pattern_search.specs.Listed.{Given, lentBy, returned, replies, lastState, answersOf, run, AllSame, Opens, EveryList, EachPart, NeverRefused, RefusedAtMostFive, ReadsASlot, ReadsOnTheRun, CandidateRead, UsesItsAllowance}
-use Rattle.pattern_search.proofs.Saying.{says}
+use Rattle.pattern_search.specs.Listed.{Given, lentBy, returned, replies, lastState, answersOf, run, AllSame, Opens, EveryList, EachPart, NeverRefused, RefusedAtMostFive, ReadsASlot, ReadsOnTheRun, CandidateRead, UsesItsAllowance, ZeroAllowance}
+use Rattle.pattern_search.proofs.Saying.{replied, says}
 use Rattle.search_questions.proofs.Asking.{seven-asked, seven-table}
 
 -- ---- the replies are the calls' answers
@@ -63,6 +63,9 @@ reads-a-slot st g h p = by (progress-any st (lentBy g) h p)
 pub uses-its-allowance : UsesItsAllowance
 unfolding lentOf
 uses-its-allowance st g h = used-exactly st (lentBy g) (sym (says (searchCall st (lentBy g))) ∙ h)
+
+pub zero-allowance : ZeroAllowance
+zero-allowance st g z = subst (NoReadMade st (lentBy g)) (sym (replied (searchCall st (lentBy g)))) (zero-keeps st (lentBy g) (unfold lentOf in z))
 
 -- ---- a call that is not refused passed questions 1 to 7
 asked-none : (st : State) (x : Lent (List ℕ) Candidate) → refusalOf st x ≡ none → x .asked st ≡ none

@@ -21,7 +21,7 @@ use Rattle.search_desk.specs.Desk.{ForPass, ForFour}
 use Rattle.search_desk.specs.declared.Held.{Held}
 use Rattle.search_feed.proofs.Limits.{every-four-keyed}
 use Rattle.quiet_reads.specs.Stands.{stand}
-use Rattle.probing.specs.Probes.{atKey}
+use Rattle.undivided_run.specs.Moves.{atKey}
 use Rattle.quiet_reads.specs.Quiet.{Leads}
 use Rattle.quiet_reads.specs.declared.Stand.{Stand}
 use Rattle.quiet_reads.proofs.Quiets.{quiet-rest}

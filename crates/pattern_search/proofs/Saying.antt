@@ -6,7 +6,7 @@ use Rattle.undivided_run.specs.Calls.{Answer, candidate, used, over, refused}
 use Rattle.pattern_search.specs.Answers.{said, shown, searched, searchedSays, replySays}
 use Rattle.pattern_search.specs.declared.Searched.{Searched}
 
-replied : (t : Answer Candidate × State) → replySays (searched t) ≡ t
+pub replied : (t : Answer Candidate × State) → replySays (searched t) ≡ t
 unfolding said shown
 replied (candidate x, s) = refl
 replied (used, s) = refl

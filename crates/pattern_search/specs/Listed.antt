@@ -16,11 +16,11 @@ use Rattle.undivided_run.specs.Undivided.{Run, gives, undivided}
 use Rattle.undivided_run.specs.Calls.{Answer, Machine, candidate, used, over, tried, candidates, found}
 use Rattle.undivided_run.specs.Step.{Lent, start, final, look, firstRead, soundAt, searchCall, refusalOf}
 use Rattle.undivided_run.specs.Exists.{Here}
-use Rattle.run_claims.specs.Listing.{Leaves, onRun as runCalls}
+use Rattle.run_claims.specs.Listing.{Leaves, NoReadMade, onRun as runCalls}
 use Rattle.search_feed.specs.Data.{Data}
 use Rattle.search_feed.specs.Feed.{feed}
 use Rattle.search_questions.specs.Questions.{firstSeven}
-use Rattle.pattern_search.specs.Answers.{lentOf, searched, searchedSays}
+use Rattle.pattern_search.specs.Answers.{lentOf, searched, searchedSays, replySays}
 use Rattle.pattern_search.specs.declared.Searched.{Searched}
 
 -- what one call is given beside the state: data, settings and table, and the allowance
@@ -118,3 +118,7 @@ CandidateRead = (st : State) (g : Given) (x : Candidate) → searchedSays (retur
 -- "Allowance used" means exactly the allowance: `uses-its-allowance`.
 abbrev pub UsesItsAllowance : Type 0
 UsesItsAllowance = (st : State) (g : Given) → searchedSays (returned st g) ≡ used → (returned st g) .state .reads ≡ st .reads + g .allowance
+
+-- "When no read is left the answer is ended, even with allowance 0; otherwise allowance 0 changes nothing.": `zero-allowance`.
+abbrev pub ZeroAllowance : Type 0
+ZeroAllowance = (st : State) (g : Given) → g .allowance ≡ 0 → NoReadMade st (lentBy g) (replySays (returned st g))

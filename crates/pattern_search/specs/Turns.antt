@@ -21,7 +21,7 @@ use Rattle.search_feed.specs.Claims.{Asked5}
 use Rattle.search_desk.specs.declared.Held.{Held}
 use Rattle.search_feed.specs.declared.Seen.{Seen}
 use Rattle.search_feed.specs.declared.Seen.the-variants.{Empty, Unsound, Passed, Found}
-use Rattle.probing.specs.Probes.{atKey}
+use Rattle.undivided_run.specs.Moves.{atKey}
 use Rattle.quiet_reads.specs.declared.Stand.{Stand}
 use Rattle.pattern_search.specs.Answers.{searched}
 use Rattle.pattern_search.specs.declared.Turn.{Turn}

@@ -113,7 +113,7 @@ fn passed(walk: Walk, p: Position, s: Stand, allowance: u64) -> Walk
         return walk;
     }
     let n = p.count(walk.patterns);
-    let to = probing::moved(p, s.key, s.probe);
+    let to = p.moved(s.key, s.probe);
     Walk {
         next: Next::Goes(to),
         patterns: n,
@@ -231,7 +231,7 @@ fn read_on(
         let reply = plain(Answer::AllowanceUsed, on.state());
         return stop(reply, on, desk);
     }
-    let to = probing::moved(p, s.key, s.probe);
+    let to = p.moved(s.key, s.probe);
     read_turn(
         centroids,
         order,

@@ -20,7 +20,7 @@ use Rattle.square_root.specs.Root.{rootOf}
 use Rattle.square_root.proofs.Laws.{root-mono}
 use Rattle.square_root.proofs.Examples.{root-is, right}
 use Rattle.preprocess.specs.Vectors.{normOf, overNorm, unitOf, vectorOf}
-use Rattle.preprocess.specs.Claims.{Coordinate, Scale, UnitVectors, CentroidVectors, Spot}
+use Rattle.preprocess.specs.Claims.{Coordinate, Scale, UnitVectors, CentroidVectors}
 use Rattle.preprocess.proofs.Coordinates.{coordinates-at}
 
 -- ---- a coordinate times a scale is of magnitude at most 2 ^ 19
@@ -166,16 +166,3 @@ pub centroid-vectors : CentroidVectors
 unfolding vectorOf
 centroid-vectors c i s t h k =
     unit-vectors (getD c (2 * (i .0)) nan) (getD c (2 * (i .0) + 1) nan) s (coordinates-at c (2 * (i .0)) t (omega arith)) (coordinates-at c (2 * (i .0) + 1) t h) k
-
--- ---- document 01's case: 3 · 0.25 is 0.75, and the norm of (0.75, 0, 1) is 1.25
-root-of-spot : rootOf (fin false 25 (negsuc 3)) ≡ fin false 5 (negsuc 1)
-unfolding right odd
-root-of-spot = root-is 24 (negsuc 3) (25 * 2 ^ 42) 126 (5 * 2 ^ 21) tt
-
-norm-of-spot : normOf (fin false 3 (negsuc 1)) zero32 ≡ fin false 5 (negsuc 1)
-unfolding normOf ofBits add mul
-norm-of-spot = root-of-spot
-
-pub spot : Spot
-unfolding unitOf overNorm mul div ofBits
-spot = rw norm-of-spot

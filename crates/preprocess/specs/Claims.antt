@@ -2,12 +2,12 @@
 use mathlib.Core.Path.{_≡_}
 use Prim.Native.Nat.{_+_, _*_, _<_}
 use mathlib.Core.Bool.{true, false}
-use mathlib.Core.List.{List, [], _∷_}
+use mathlib.Core.List.{List}
 use lib.IntN.{pos, negsuc}
 use lib.Dec.{T}
 use lib.ListN.{length, getD}
-use lib.Ieee.{Float, nan, fin, binary32, round, le, lt}
-use Rattle.float_order.specs.Value.{zero32, one32, quarter32}
+use lib.Ieee.{Float, nan, fin, le, lt}
+use Rattle.float_order.specs.Value.{zero32, one32}
 use Rattle.float_order.specs.Interval.{In}
 use Rattle.preprocess.specs.Questions.{coordinatesFit}
 use Rattle.preprocess.specs.Vectors.{unitOf, vectorOf}
@@ -36,7 +36,3 @@ UnitVectors = (x y s : Float) → Coordinate x → Coordinate y → Scale s → 
 abbrev pub CentroidVectors : Type 0
 CentroidVectors = (c : List Float) (i : CentroidIndex) (s : Float)
     → coordinatesFit c ≡ true → 2 * (i .0) + 1 < length c → Scale s → UnitVector (vectorOf c i s)
-
--- Spot (3, 0), scale 0.25: the f32 nearest 0.6, 0, nearest 0.8: `spot`.
-abbrev pub Spot : Type 0
-Spot = unitOf (fin false 3 (pos 0)) zero32 quarter32 ≡ round binary32 false 6 10 ∷ zero32 ∷ round binary32 false 8 10 ∷ []

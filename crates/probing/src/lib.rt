@@ -1,8 +1,6 @@
-// What a probe of a key is: its slot, and the position at another key and probe of the same combination.
+// The slot that a probe of a key reads.
 ghost use mathlib.Core.Path.{_≡_};
 ghost use Prim.Native.Nat.{_+_, _*_, _%_, _≤_, _<_};
-ghost use Rattle.probing.specs.Probes.{atKey};
-use undivided_run::Position;
 
 // The slot of probe number c from a home slot: a division only where the sum goes past the last slot.
 pub fn around(home: u64, c: u32, slots: u64) -> u64
@@ -15,17 +13,4 @@ pub fn around(home: u64, c: u32, slots: u64) -> u64
         return sum;
     }
     sum % slots
-}
-
-// Another key and probe of the same combination.
-pub fn moved(p: Position, key: u32, probe: u32) -> Position
-    ensures { λ r. ⌜ r ≡ atKey p key probe ⌝ }
-{
-    let four = p.four;
-    Position {
-        pass: p.pass,
-        four,
-        key,
-        probe,
-    }
 }

@@ -10,4 +10,3 @@ pub mod Demand3
 pub mod Progress
 pub mod Eights
 pub mod Turns
-pub mod Examples

@@ -1,5 +1,5 @@
 -- A call moves: not refused and allowed a read it reads a slot unless none is left, "allowance used" is exactly the allowance, and an ended state ends again alike.
--- For any state and anything lent. Assumes nothing.
+-- With allowance 0 it is refused, ends where no read is left, or leaves the state received. For any state and anything lent. Assumes nothing.
 use mathlib.Core.Path.{_≡_, refl, _∙_}
 use Prim.Native.Nat.{ℕ, zero, suc, _+_, _≤_, _<_}
 use native.Mathlib.Omega.{arith}
@@ -15,7 +15,7 @@ use Rattle.undivided_run.specs.declared.State.{State}
 use Rattle.undivided_run.specs.Undivided.{cases, gives}
 use Rattle.undivided_run.specs.Calls.{Answer, candidate, used, over, refused}
 use Rattle.undivided_run.specs.Step.{settle, bump, look, zeroCall, go, call, nine, Lent, search, searchCall, refusalOf, nineOf, soundAt, nextRead, firstRead}
-use Rattle.run_claims.specs.Listing.{ProgressAny, UsedExactly, EndsAlike}
+use Rattle.run_claims.specs.Listing.{ProgressAny, UsedExactly, NoReadMade, ZeroKeeps, EndsAlike}
 
 -- ---- one read, by whether its entry is sound and what it gives
 module _ {C : Type 0} (st k : State) (t : Answer C × State) (m : ℕ) where
@@ -107,6 +107,22 @@ module _ {E C : Type 0} (st : State) (x : Lent E C) where
       by : (o : Option ℕ) → (cases o (search (x .feed) (x .cap) st (x .allowance)) λ k. (refused k, st)) .0 ≡ used → (cases o (search (x .feed) (x .cap) st (x .allowance)) λ k. (refused k, st)) .1 .reads ≡ st .reads + x .allowance
       by none h = call-used _ _ _ _ st (x .allowance) h
       by (some k) h = absurd (let y : _≡_ {A = ℕ} 0 1 = cc in omega arith)
+
+  zero-read : x .asked st ≡ none → NoReadMade st x (search (x .feed) (x .cap) st 0)
+  unfolding search call zeroCall
+  zero-read n = by (look (firstRead (x .feed) (x .cap)) (st .phase)) refl
+    where
+      by : (w : Next) → look (firstRead (x .feed) (x .cap)) (st .phase) ≡ w → NoReadMade st x (zeroCall st w)
+      by (ends s) e = inr (inl (n, s, e, refl))
+      by (goes r) e = inr (inr (n, r, e, refl))
+
+  pub zero-keeps : ZeroKeeps st x
+  unfolding searchCall cases
+  zero-keeps z = by (x .asked st) refl
+    where
+      by : (o : Option ℕ) → x .asked st ≡ o → NoReadMade st x (cases o (search (x .feed) (x .cap) st (x .allowance)) λ k. (refused k, st))
+      by none n = rw z (zero-read n)
+      by (some k) n = inl (k, n, refl)
 
   pub ends-alike : EndsAlike st x
   unfolding search

@@ -8,11 +8,11 @@ use lib.ListN.{take, drop}
 use Rattle.undivided_run.specs.declared.Status.{Status}
 use Rattle.undivided_run.specs.declared.Cap.{Cap}
 use Rattle.undivided_run.specs.declared.Position.{Position as Read}
-use Rattle.undivided_run.specs.declared.Next.the-variants.{Ends as ends}
+use Rattle.undivided_run.specs.declared.Next.the-variants.{Goes as goes, Ends as ends}
 use Rattle.undivided_run.specs.declared.Phase.the-variants.{Fresh as new, At as at, Ended as done}
 use Rattle.undivided_run.specs.declared.State.{State}
 use Rattle.undivided_run.specs.Undivided.{Run, Feed, gives, undivided}
-use Rattle.undivided_run.specs.Calls.{Answer, used, over, Fed, allowed, refusal, Machine, fresh, tried, candidates, machine, calls, found}
+use Rattle.undivided_run.specs.Calls.{Answer, used, over, refused, Fed, allowed, refusal, Machine, fresh, tried, candidates, machine, calls, found}
 use Rattle.undivided_run.specs.Step.{start, final, look, firstRead, Lent, searchCall, refusalOf}
 
 -- What the machine is fed for a call: the refusal's number where the questions refuse it, else its allowance.
@@ -70,6 +70,18 @@ ProgressAny st x =
 -- "Allowance used" means that the call made exactly its allowance of reads: `used-exactly`.
 abbrev pub UsedExactly : {E C : Type 0} → State → Lent E C → Type 0
 UsedExactly st x = (searchCall st x) .0 ≡ used → (searchCall st x) .1 .reads ≡ st .reads + x .allowance
+
+-- What a call gives that makes no read. Where questions 1 to 8 refuse it: their number and the state received. Else, where no read is left: ended, and so is
+-- its state; and where a read is left: "allowance used" and the state received.
+abbrev pub NoReadMade : {E C : Type 0} → State → Lent E C → Answer C × State → Type 0
+NoReadMade st x t =
+    ((k : ℕ) × (x .asked st ≡ some k) × (t ≡ (refused k, st)))
+    ⊎ ((x .asked st ≡ none) × (s : Status) × (look (firstRead (x .feed) (x .cap)) (st .phase) ≡ ends s) × (t ≡ (over s, record { phase = done s; patterns = st .patterns; reads = st .reads })))
+    ⊎ ((x .asked st ≡ none) × (r : Read) × (look (firstRead (x .feed) (x .cap)) (st .phase) ≡ goes r) × (t ≡ (used, st)))
+
+-- Every call with allowance 0 gives that, for any state and anything lent: `zero-keeps`.
+abbrev pub ZeroKeeps : {E C : Type 0} → State → Lent E C → Type 0
+ZeroKeeps st x = x .allowance ≡ 0 → NoReadMade st x (searchCall st x)
 
 -- An ended state ends again alike: `ends-alike`.
 abbrev pub EndsAlike : {E C : Type 0} → State → Lent E C → Type 0

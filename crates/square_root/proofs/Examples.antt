@@ -2,9 +2,9 @@
 use mathlib.Core.Path.{_≡_, ap, _∙_}
 use Prim.Native.Nat.{ℕ, suc, _+_, _-_, _*_, _/_, _^_}
 use mathlib.Core.Bool.{Bool, false, _&&_}
-use lib.IntN.{ℤ, pos, negsuc}
+use lib.IntN.{ℤ, negsuc}
 use lib.Dec.{T, leb, ltb, eqb, ltb→lt, leb→le, eqb→eq}
-use lib.Ieee.{fin, binary32, up, down, size, odd, ofBits}
+use lib.Ieee.{fin, up, down, size, odd}
 use lib.Ieee.Fits.{and-l, and-r}
 use Rattle.square_root.specs.Root.{nearestRoot, rootOf}
 use Rattle.square_root.proofs.Count.{nearest-is}
@@ -32,16 +32,7 @@ root-is m e n d q t =
     (ap (λ (x : ℕ). nearestRoot x d) (eqb→eq w (n * 4 ^ d) (and-l a b t2))
     ∙ nearest-is n q d (ltb→lt (q * q) (n + q) (and-r (a && b) f t3)) (leb→le n (q * q + q) (and-r (a && b && f) g t4)) (leb→le q 16777216 (and-r (a && b && f && g) h t)))
 
-pub four : rootOf (fin false 1 (pos 2)) ≡ fin false 1 (pos 1)
-unfolding right odd
-four = root-is 0 (pos 2) (2 ^ 46) 127 (2 ^ 23) tt
-
 -- √0.25 is 0.5
 pub quarter : rootOf (fin false 1 (negsuc 1)) ≡ fin false 1 (negsuc 0)
 unfolding right odd
 quarter = root-is 0 (negsuc 1) (2 ^ 46) 125 (2 ^ 23) tt
-
--- √2 is the value with the pattern 3FB504F3
-pub two : rootOf (fin false 1 (pos 1)) ≡ ofBits binary32 0x3FB5_04F3
-unfolding right odd ofBits
-two = root-is 0 (pos 1) (2 ^ 47) 126 0xB504F3 tt

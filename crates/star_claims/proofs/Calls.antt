@@ -2,54 +2,94 @@
 use mathlib.Core.Path.{_≡_, refl, sym, ap, ap₂, _∙_, subst}
 use Prim.Native.Nat.{ℕ, zero, suc, _<_}
 use native.Mathlib.Omega.{arith}
+use mathlib.Core.Bool.{Bool, true, false, cond}
+use mathlib.Core.Logic.{_⊎_, inl, inr}
 use mathlib.Core.Option.{Option, none, some}
+use lib.Dec.{eqb}
 use lib.ListN.{take, drop}
+use borrow.Author.Tests.{eqb-true}
 use mathlib.Core.List.{List, [], _∷_, map}
 use Rattle.candidates.specs.declared.Candidate.{Candidate}
 use Rattle.undivided_run.specs.declared.State.{State}
 use Rattle.undivided_run.specs.declared.Position.{Position}
 use Rattle.undivided_run.specs.declared.Status.{Status}
+use Rattle.undivided_run.specs.declared.Next.the-variants.{Goes, Ends}
 use Rattle.undivided_run.specs.Undivided.{Run}
 use Rattle.undivided_run.specs.Calls.{Answer, candidate, used, over, refused, Machine, tried, found}
-use Rattle.run_claims.specs.Listing.{Leaves}
-use Rattle.undivided_run.specs.Step.{start, searchCall}
+use Rattle.run_claims.specs.Listing.{Leaves, NoReadMade}
+use Rattle.undivided_run.specs.Step.{Lent, start, searchCall}
 use Rattle.run_claims.proofs.Demand3.{refused-keeps}
-use Rattle.pattern_search.specs.Answers.{said, shown, searched, searchedSays}
+use Rattle.run_claims.proofs.Progress.{zero-keeps}
+use Rattle.pattern_search.specs.Answers.{lentOf, said, shown, searched, searchedSays}
 use Rattle.pattern_search.specs.Listed.{lentBy, returned, answersOf, replies, lastState, run}
 use Rattle.pattern_search.proofs.Listed.{listed}
 use Rattle.state_received.specs.Received.{unknown, stateOf}
-use Rattle.numbers_handed.specs.Handed.{plainNumbers, candidateNumbers, answerOf}
+use Rattle.numbers_handed.specs.Handed.{plainNumbers, stateNumbers, candidateNumbers, answerOf}
 use Rattle.star_search.specs.Calls.{Call, givenBy, answered}
 use Rattle.star_claims.specs.Calls.{answers, lastRaw, saidBy, numbersOf, foundIn, phaseOn, SameCalls, ListedThroughC, ListedFromZero}
+use Rattle.star_claims.specs.Claims.{nextOf, ZeroChangesNothing}
 use Rattle.star_numbers.specs.declared.StarState.{StarState}
+use Rattle.star_numbers.specs.declared.StarAnswer.{StarAnswer}
 use Rattle.star_claims.proofs.Tags.{state-back, zero-is-fresh}
 use Rattle.star_claims.proofs.Shown.{stageNumber, shows}
 
 -- ---- one call
-said-alike : (raw : StarState) (t : Answer Candidate × State) → saidBy (answerOf raw (searched t)) ≡ numbersOf (searchedSays (searched t))
+said-alike : (raw : StarState) (a : ℕ) (t : Answer Candidate × State) → saidBy (answerOf raw a (searched t)) ≡ numbersOf (searchedSays (searched t))
 unfolding said shown
-said-alike raw (candidate x, s) = refl
-said-alike raw (used, s) = refl
-said-alike raw (over z, s) = refl
-said-alike raw (refused k, s) = refl
+said-alike raw a (candidate x, s) = refl
+said-alike raw a (used, s) = refl
+said-alike raw a (over z, s) = refl
+said-alike raw a (refused k, s) = refl
 
--- the state given back is the state left: a refusal leaves what it received
-left-alike : (raw : StarState) (t : Answer Candidate × State) → ((k : ℕ) → t .0 ≡ refused k → t .1 ≡ stateOf raw) → stateOf ((answerOf raw (searched t)) .state) ≡ t .1
+-- the state given back is the state left: a refusal leaves what it received, and so does "allowance used" where the allowance is 0
+left-alike : (raw : StarState) (a : ℕ) (t : Answer Candidate × State) → ((k : ℕ) → t .0 ≡ refused k → t .1 ≡ stateOf raw) → (a ≡ 0 → t .0 ≡ used → t .1 ≡ stateOf raw) → stateOf ((answerOf raw a (searched t)) .state) ≡ t .1
 unfolding said shown
-left-alike raw (candidate x, s) h = state-back s
-left-alike raw (used, s) h = state-back s
-left-alike raw (over z, s) h = state-back s
-left-alike raw (refused k, s) h = sym (h k refl)
+left-alike raw a (candidate x, s) h z = state-back s
+left-alike raw a (used, s) h z = by (eqb a 0) refl
+  where
+    by : (b : Bool) → eqb a 0 ≡ b → stateOf (cond b raw (stateNumbers s)) ≡ s
+    by true e = sym (z (eqb-true _ _ e) refl)
+    by false e = state-back s
+left-alike raw a (over o, s) h z = state-back s
+left-alike raw a (refused k, s) h z = sym (h k refl)
+
+-- with allowance 0 a call that answers "allowance used" leaves the state received
+used-keeps : (st : State) (x : Lent (List ℕ) Candidate) (t : Answer Candidate × State) → NoReadMade st x t → t .0 ≡ used → t .1 ≡ st
+used-keeps st x t (inl (k, n, e)) u = ap (λ t. t .1) e
+used-keeps st x t (inr (inl (n, s, e, o))) u = absurd (let y : _≡_ {A = ℕ} 0 1 = cc in omega arith)
+used-keeps st x t (inr (inr (n, r, e, o))) u = ap (λ t. t .1) o
 
 one-left : (raw : StarState) (g : Call) → stateOf ((answered raw g) .state) ≡ (returned (stateOf raw) (givenBy g)) .state
-one-left raw g = left-alike raw (searchCall (stateOf raw) (lentBy (givenBy g))) (refused-keeps (stateOf raw) (lentBy (givenBy g)))
+one-left raw g =
+    let st = stateOf raw in
+    let x = lentBy (givenBy g) in
+    left-alike raw (g .allowance) (searchCall st x) (refused-keeps st x) (λ z. used-keeps st x (searchCall st x) (zero-keeps st x (unfold lentOf in z)))
+
+-- ---- allowance 0
+module _ (raw : StarState) (g : Call) (z : g .allowance ≡ 0) where
+  abbrev handed : Answer Candidate × State → StarAnswer
+  handed t = answerOf raw (g .allowance) (searched t)
+
+  zero-shown : (t : Answer Candidate × State) → NoReadMade (stateOf raw) (lentBy (givenBy g)) t
+      → ((s : Status) × (nextOf raw g ≡ Ends s) × ((handed t) .answer ≡ 2))
+      ⊎ ((r : Position) × (nextOf raw g ≡ Goes r) × ((handed t) .answer ≡ 1) × ((handed t) .state ≡ raw))
+      ⊎ (((handed t) .answer ≡ 3) × ((handed t) .state ≡ raw))
+  unfolding said shown lentOf
+  zero-shown t (inl (k, n, e)) = inr (inr (ap (λ t. (handed t) .answer) e, ap (λ t. (handed t) .state) e))
+  zero-shown t (inr (inl (n, s, e, o))) = inl (s, e, ap (λ t. (handed t) .answer) o)
+  zero-shown t (inr (inr (n, r, e, o))) = inr (inl (r, e, ap (λ t. (handed t) .answer) o, ap (λ t. (handed t) .state) o ∙ rw z))
+
+pub zero-changes-nothing : ZeroChangesNothing
+zero-changes-nothing raw g z =
+    let x = lentBy (givenBy g) in
+    zero-shown raw g z (searchCall (stateOf raw) x) (zero-keeps (stateOf raw) x (unfold lentOf in z))
 
 -- ---- a list of calls
 pub same-answers : (raw : StarState) (gs : List Call) → map saidBy (answers raw gs) ≡ map numbersOf (answersOf (replies (stateOf raw) (map givenBy gs)))
 unfolding answers replies
 same-answers raw [] = refl
 same-answers raw (g ∷ gs) =
-    ap₂ _∷_ (said-alike raw (searchCall (stateOf raw) (lentBy (givenBy g))))
+    ap₂ _∷_ (said-alike raw (g .allowance) (searchCall (stateOf raw) (lentBy (givenBy g))))
     (same-answers ((answered raw g) .state) gs ∙ ap (λ st. map numbersOf (answersOf (replies st (map givenBy gs)))) (one-left raw g))
 
 pub same-last : (raw : StarState) (gs : List Call) → stateOf (lastRaw raw gs) ≡ lastState (stateOf raw) (map givenBy gs)

@@ -106,12 +106,12 @@ completable st g x scale h sc =
     })
 
 -- ---- through C: answer 0 is a candidate's
-zero-candidate : (raw : StarState) (t : Answer Candidate × State) → (answerOf raw (searched t)) .answer ≡ 0 → (x : Candidate) × (t .0 ≡ candidate x) × ((answerOf raw (searched t)) .candidate ≡ candidateNumbers x)
+zero-candidate : (raw : StarState) (a : ℕ) (t : Answer Candidate × State) → (answerOf raw a (searched t)) .answer ≡ 0 → (x : Candidate) × (t .0 ≡ candidate x) × ((answerOf raw a (searched t)) .candidate ≡ candidateNumbers x)
 unfolding said shown
-zero-candidate raw (candidate x, s) h = (x, refl, refl)
-zero-candidate raw (used, s) h = absurd (omega (arith, h))
-zero-candidate raw (over z, s) h = absurd (omega (arith, h))
-zero-candidate raw (refused k, s) h = absurd (omega (arith, h))
+zero-candidate raw a (candidate x, s) h = (x, refl, refl)
+zero-candidate raw a (used, s) h = absurd (omega (arith, h))
+zero-candidate raw a (over z, s) h = absurd (omega (arith, h))
+zero-candidate raw a (refused k, s) h = absurd (omega (arith, h))
 
 done-zero : (c : Completed) → c .answer ≡ Completion.Done → completedNumbers c .answer ≡ 0
 done-zero c e = rw e
@@ -119,7 +119,7 @@ done-zero c e = rw e
 pub completable-through-c : CompletableThroughC
 completable-through-c raw g scale h sc =
     let st = stateOf raw in
-    let (x, e, c) = zero-candidate raw (searchCall st (lentBy (givenBy g))) h in
+    let (x, e, c) = zero-candidate raw (g .allowance) (searchCall st (lentBy (givenBy g))) h in
     let f = says (searchCall st (lentBy (givenBy g))) ∙ e in
     let (s, r, here, sound, o) = candidate-read st (givenBy g) x f in
     let l = fours (givenBy g .data-of) r x here sound (gives-exactly (givenBy g .data-of) r x .0 o) in

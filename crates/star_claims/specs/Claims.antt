@@ -9,9 +9,13 @@ use lib.ListN.{length, take, drop}
 use lib.Ieee.{Float}
 use Rattle.candidates.specs.declared.Candidate.{Candidate}
 use Rattle.undivided_run.specs.declared.State.{State}
+use Rattle.undivided_run.specs.declared.Status.{Status}
+use Rattle.undivided_run.specs.declared.Position.{Position}
+use Rattle.undivided_run.specs.declared.Next.{Next}
+use Rattle.undivided_run.specs.declared.Next.the-variants.{Goes, Ends}
 use Rattle.undivided_run.specs.Eight.{eightOk}
 use Rattle.undivided_run.specs.Calls.{candidate}
-use Rattle.undivided_run.specs.Step.{start}
+use Rattle.undivided_run.specs.Step.{start, look, firstRead}
 use Rattle.search_feed.specs.Data.{Data, settingsOk}
 use Rattle.search_feed.specs.Feed.{feed}
 use Rattle.pass_limits.specs.Limits.{scaleFits}
@@ -28,7 +32,7 @@ use Rattle.state_received.specs.Received.{stateOf}
 use Rattle.candidate_received.specs.Received.{candidateFrom}
 use Rattle.numbers_handed.specs.Handed.{plainNumbers, stateNumbers, candidateNumbers}
 use Rattle.results_handed.specs.Results.{openedNumber, partNumbers, completedNumbers}
-use Rattle.star_search.specs.Calls.{Call, answered}
+use Rattle.star_search.specs.Calls.{Call, givenBy, answered}
 use Rattle.star_numbers.specs.declared.StarSettings.{StarSettings}
 use Rattle.star_numbers.specs.declared.StarState.{StarState}
 
@@ -43,6 +47,18 @@ StateBack = (s : State) → stateOf (stateNumbers s) ≡ s
 -- .. and so a candidate, whose places and stars are four each: `candidate-back`.
 abbrev pub CandidateBack : Type 0
 CandidateBack = (c : Candidate) → length (c .places) ≡ 4 → length (c .stars) ≡ 4 → candidateFrom (candidateNumbers c) ≡ c
+
+-- what comes next at a raw state: a read, or the status that ends the run
+abbrev pub nextOf : StarState → Call → Next
+nextOf raw g = let D = givenBy g .data-of in look (firstRead (feed D) (D .frame .config .cap)) (stateOf raw .phase)
+
+-- "When no read is left the answer is ended, even with allowance 0; otherwise allowance 0 changes nothing": with allowance 0 the answer is 2 (ended) and no read
+-- is left; or it is 1 (used) and a read is left, or 3 (refused), and the state handed back is the raw state as received, unused numbers too: `zero-changes-nothing`.
+abbrev pub ZeroChangesNothing : Type 0
+ZeroChangesNothing = (raw : StarState) (g : Call) → g .allowance ≡ 0
+    → ((s : Status) × (nextOf raw g ≡ Ends s) × ((answered raw g) .answer ≡ 2))
+    ⊎ ((r : Position) × (nextOf raw g ≡ Goes r) × ((answered raw g) .answer ≡ 1) × ((answered raw g) .state ≡ raw))
+    ⊎ (((answered raw g) .answer ≡ 3) × ((answered raw g) .state ≡ raw))
 
 -- All zero is the fresh state: `zero-is-fresh`.
 abbrev pub ZeroIsFresh : Type 0

@@ -33,8 +33,8 @@ module _ (centroids : List Float) (order : List ℕ) (passes stars : List Float)
     abbrev lent : Call
     lent = record { centroids = centroids; order = order; settings = settings; passes = passes; slots = slots; words = words; packed = packed; stars = stars; allowance = allowance }
 
-    pub search-through : (config : SearchConfig) → config ≡ configOf settings → (st : State) → st ≡ stateOf raw → (r : Searched) → r ≡ says st config → (a : StarAnswer) → a ≡ answerOf raw r → a ≡ answered raw lent
-    search-through config p st q r e a f = f ∙ ap (answerOf raw) (e ∙ ap₂ says q p)
+    pub search-through : (config : SearchConfig) → config ≡ configOf settings → (st : State) → st ≡ stateOf raw → (r : Searched) → r ≡ says st config → (a : StarAnswer) → a ≡ answerOf raw allowance r → a ≡ answered raw lent
+    search-through config p st q r e a f = f ∙ ap (answerOf raw allowance) (e ∙ ap₂ says q p)
 
   module _ (raw : StarCandidate) (scale : Float) where
     pub complete-through : (c : Candidate) → c ≡ candidateFrom raw → (r : Completed) → r ≡ completedOf centroids order passes stars c scale → (a : StarCompleted) → a ≡ completedNumbers r → a ≡ completedNumbers (completedOf centroids order passes stars (candidateFrom raw) scale)

@@ -33,4 +33,4 @@ givenBy g =
 
 -- what `star_search` returns: its contract
 abbrev pub answered : StarState → Call → StarAnswer
-answered raw g = answerOf raw (returned (stateOf raw) (givenBy g))
+answered raw g = answerOf raw (g .allowance) (returned (stateOf raw) (givenBy g))

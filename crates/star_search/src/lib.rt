@@ -63,7 +63,7 @@ pub extern "C" fn star_search(
         from,
         allowance,
     );
-    numbers_handed::answer_of(state, said)
+    numbers_handed::answer_of(state, allowance, said)
 }
 
 // What a slot holds.

@@ -1,4 +1,7 @@
 // A search told as it goes on: its frame, its first candidate with the read that gave it, progress, and how it ended.
+ghost use mathlib.Core.Path.{_≡_};
+ghost use Rattle.search_feed.specs.Data.{frameOf, dataOf};
+ghost use Rattle.telling.specs.Calls.{called, letThrough, goesOn, searchedFrom};
 use crate::lines::candidate_line;
 use crate::lines::count;
 use crate::lines::end_line;
@@ -197,7 +200,9 @@ fn tell_answer(
     state: State,
     s: Searched,
     found: u64,
-) -> bool {
+) -> bool
+    ensures { λ r. ⌜ r ≡ goesOn (s .answer) ⌝ }
+{
     let answer = s.answer;
     let left = s.state;
     match answer {
@@ -255,7 +260,9 @@ fn tell_calls(
     places: &[u32],
     triples: &[f32],
     state: State,
-) -> State {
+) -> State
+    ensures { λ r. ⌜ r ≡ searchedFrom (dataOf (frameOf (now (coords .entry)) (now (places .entry)) config (now (triples .entry))) slots (now (words .entry)) (now (packed .entry)) (now (stars .entry))) 100000 18446744073709551615 state ⌝ }
+{
     let mut at = state;
     let mut found: u64 = 0;
     let mut turns = u64::MAX;
@@ -310,7 +317,9 @@ fn tell_frame(
     places: &[u32],
     triples: &[f32],
     state: State,
-) -> bool {
+) -> bool
+    ensures { λ r. ⌜ r ≡ letThrough (called (dataOf (frameOf (now (coords .entry)) (now (places .entry)) config (now (triples .entry))) slots (now (words .entry)) (now (packed .entry)) (now (stars .entry))) state 0 .answer) ⌝ }
+{
     let asked = pattern_search::search(
         coords,
         places,
@@ -348,7 +357,9 @@ pub fn tell_search(
     places: &[u32],
     triples: &[f32],
     state: State,
-) -> State {
+) -> State
+    ensures { λ r. ⌜ r ≡ searchedFrom (dataOf (frameOf (now (coords .entry)) (now (places .entry)) config (now (triples .entry))) slots (now (words .entry)) (now (packed .entry)) (now (stars .entry))) 100000 18446744073709551615 state ⌝ }
+{
     if !tell_frame(
         config,
         slots,
@@ -387,7 +398,9 @@ pub fn tell_call(
     triples: &[f32],
     state: State,
     allowance: u64,
-) -> State {
+) -> State
+    ensures { λ r. ⌜ r ≡ called (dataOf (frameOf (now (coords .entry)) (now (places .entry)) config (now (triples .entry))) slots (now (words .entry)) (now (packed .entry)) (now (stars .entry))) state allowance .state ⌝ }
+{
     if !tell_frame(
         config,
         slots,

@@ -22,6 +22,10 @@ probed r = record { pass = r .pass; four = r .four; key = r .key; probe = suc (r
 abbrev pub keyed : Read → Read
 keyed r = firstOfKey (r .pass) (r .four) (suc (r .key))
 
+-- another key and probe of the same combination
+abbrev pub atKey : Read → ℕ → ℕ → Read
+atKey r k c = record { pass = r .pass; four = r .four; key = k; probe = c }
+
 -- the first read of a combination, the cap asked before it
 unfoldable pub toFour : Cap → ℕ → ℕ → Four → Next
 toFour cap tried i q = cond (reached cap tried) (ends Timeout) (goes (firstOf i q))

@@ -4,7 +4,7 @@ ghost use mathlib.Core.Path.{_≡_};
 ghost use Prim.Native.Nat.{_<_};
 ghost use Rattle.undivided_run.specs.Undivided.{reached};
 ghost use Rattle.undivided_run.specs.Step.{bump, settle};
-ghost use Rattle.undivided_run.specs.Moves.{firstOf, probed, keyed, toFour};
+ghost use Rattle.undivided_run.specs.Moves.{firstOf, probed, keyed, atKey, toFour};
 use combinations::Four;
 
 // How a run ends.
@@ -106,6 +106,15 @@ impl Position {
     {
         self.key = self.key + 1;
         self.probe = 0;
+        self
+    }
+
+    // Another key and probe of the same combination.
+    pub fn moved(mut self, key: u32, probe: u32) -> Position
+        ensures { λ r. ⌜ r ≡ atKey self key probe ⌝ }
+    {
+        self.key = key;
+        self.probe = probe;
         self
     }
 

@@ -40,7 +40,7 @@ raw r = record {
 }
 
 returns : tie.Need-returns
-returns c = ap raw (c .before .before .read-packed .ensures ∙ ap entryRead (c .before .before .before .entry-of .ensures))
+returns c = ap raw (c .before .before .read-packed .ensures ∙ ap entryRead (c .before .before .before .entry-of .ensures .0))
 
 pub catalog-entry-spec : {M : Type 1} → statement M
 catalog-entry-spec =

@@ -8,8 +8,8 @@ use borrow.Author.Needs.{needs}
 use Rattle.next_read.proofs.after_four.Statement.{statement}
 use Rattle.next_read.proofs.after_four.Tie as tie
 
-next-four-requires : tie.Need-next-four-requires
-next-four-requires c κs = search needs
+next-requires : tie.Need-next-requires
+next-requires c κs = search needs
 
 enum-known-q : tie.Need-enum-known-q
 enum-known-q c = search needs
@@ -29,16 +29,16 @@ to-pass-requires : tie.Need-to-pass-requires
 to-pass-requires c κs = (c .before .before .before .before .before .before .before .before .before .before .pre .0, laid-pass _ _ _ _ _ (c .before .before .before .before .before .before .before .before .before .before .pre .1 .laid), next-pass-inside _ _ _ _ _ (c .before .before .before .before .before .before .before .before .before .before .pre .1 .laid))
 
 returns : tie.Need-returns
-returns c = (λ w e x. c .to-four .ensures ∙ sym (four-follows _ _ w e x _ _ _ _ _ (c .before .before .before .before .before .before .before .before .before .pre .1 .laid .held .count) _ (c .before .before .before .before .next-four .ensures) _ (c .before .before .q .given .1)), kept-same _ _ _ _ (laid-pass _ _ _ _ _ (c .before .before .before .before .before .before .before .before .before .pre .1 .laid)))
+returns c = (λ w e x. c .to-four .ensures ∙ sym (four-follows _ _ w e x _ _ _ _ _ (c .before .before .before .before .before .before .before .before .before .pre .1 .laid .held .count) _ (c .before .before .before .before .next .ensures) _ (c .before .before .q .given .1)), kept-same _ _ _ _ (laid-pass _ _ _ _ _ (c .before .before .before .before .before .before .before .before .before .pre .1 .laid)))
 
 returns-2 : tie.Need-returns-2
-returns-2 c = (λ w e x. c .to-pass .ensures .0 w e x ∙ sym (four-ends _ _ w e x _ _ _ _ _ (c .before .before .before .before .before .before .before .before .before .before .before .pre .1 .laid .held .count) _ (c .before .before .before .before .before .before .next-four .ensures) (c .before .before .before .before .enum-told .given .1)), c .to-pass .ensures .1)
+returns-2 c = (λ w e x. c .to-pass .ensures .0 w e x ∙ sym (four-ends _ _ w e x _ _ _ _ _ (c .before .before .before .before .before .before .before .before .before .before .before .pre .1 .laid .held .count) _ (c .before .before .before .before .before .before .next .ensures) (c .before .before .before .before .enum-told .given .1)), c .to-pass .ensures .1)
 
 pub after-four-spec : {M : Type 1} → statement M
 after-four-spec =
     tie.close
     (tie.spec
-    next-four-requires
+    next-requires
     enum-known-q
     to-four-requires
     enum-told

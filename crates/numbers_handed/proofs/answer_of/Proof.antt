@@ -14,6 +14,9 @@ enum-told c = search needs
 enum-told-2 : tie.Need-enum-told-2
 enum-told-2 c = search needs
 
+used-state-requires : tie.Need-used-state-requires
+used-state-requires c κs = search needs
+
 enum-known-said : tie.Need-enum-known-said
 enum-known-said c = search needs
 
@@ -27,7 +30,7 @@ returns : tie.Need-returns
 returns c = rw (c .enum-told .given .1, c .before .before .before .candidate-numbers .ensures, c .before .before .state-numbers .ensures)
 
 returns-2 : tie.Need-returns-2
-returns-2 c = rw (c .enum-told2 .given .1, c .before .before .before .candidate-numbers .ensures, c .before .before .state-numbers .ensures)
+returns-2 c = rw (c .used-state .ensures, c .before .enum-told2 .given .1, c .before .before .before .before .candidate-numbers .ensures, c .before .before .before .state-numbers .ensures)
 
 returns-3 : tie.Need-returns-3
 returns-3 c = rw (c .status-number .ensures, c .before .before .said .given .1, c .before .before .before .before .before .candidate-numbers .ensures, c .before .before .before .before .state-numbers .ensures)
@@ -43,6 +46,7 @@ answer-of-spec =
     state-numbers-requires
     enum-told
     enum-told-2
+    used-state-requires
     enum-known-said
     status-number-requires
     enum-known-said-2

@@ -1,7 +1,9 @@
-use mathlib.Core.Path.{sym, ap, _∙_}
+use mathlib.Core.Path.{sym, ap, _∙_, refl}
 use native.Mathlib.Omega.{arith}
 use Rattle.pattern_catalog.specs.Answers.{foundSays}
-use Rattle.pattern_catalog.specs.SlotRead.{sectionPart}
+use Prim.Native.Nat.{_+_}
+use Rattle.pattern_catalog.specs.Answers.{Answer}
+use Rattle.pattern_catalog.specs.SlotRead.{sectionPart, partStart}
 use Rattle.pattern_entry.proofs.Bytes.{part-is}
 use Rattle.pattern_catalog.proofs.Slots.{read-place}
 use borrow.Author.Needs.{needs}
@@ -54,13 +56,13 @@ part-result-end-3 : tie.Need-part-result-end-3
 part-result-end-3 c = search needs
 
 returns : tie.Need-returns
-returns c = let a = c .before .before .before .before .before .before .before .args in part-is (a .packed .now) _ ∙ sym (ap (sectionPart (a .packed .now)) (sym (c .before .before .before .before .find .ensures) ∙ ap foundSays (c .before .before .p .given .1)))
+returns c = let a = c .before .before .before .before .before .before .before .args in (part-is (a .packed .now) _ ∙ sym (ap (sectionPart (a .packed .now)) (sym (c .before .before .before .before .find .ensures) ∙ ap foundSays (c .before .before .p .given .1))), (refl, sym (ap (λ (x : Answer). partStart x + a .packed .ptr .1) (sym (c .before .before .before .before .find .ensures) ∙ ap foundSays (c .before .before .p .given .1)))))
 
 returns-2 : tie.Need-returns-2
-returns-2 c = let a = c .before .before .before .before .before .before .args in sym (ap (sectionPart (a .packed .now)) (sym (c .before .before .before .find .ensures) ∙ ap foundSays (c .before .enum-told .given .1)))
+returns-2 c = let a = c .before .before .before .before .before .before .args in (sym (ap (sectionPart (a .packed .now)) (sym (c .before .before .before .find .ensures) ∙ ap foundSays (c .before .enum-told .given .1))), (refl, sym (ap (λ (x : Answer). partStart x + a .packed .ptr .1) (sym (c .before .before .before .find .ensures) ∙ ap foundSays (c .before .enum-told .given .1)))))
 
 returns-3 : tie.Need-returns-3
-returns-3 c = let a = c .before .before .before .before .before .before .args in sym (ap (sectionPart (a .packed .now)) (sym (c .before .before .before .find .ensures) ∙ ap foundSays (c .before .enum-told2 .given .1)))
+returns-3 c = let a = c .before .before .before .before .before .before .args in (sym (ap (sectionPart (a .packed .now)) (sym (c .before .before .before .find .ensures) ∙ ap foundSays (c .before .enum-told2 .given .1))), (refl, sym (ap (λ (x : Answer). partStart x + a .packed .ptr .1) (sym (c .before .before .before .find .ensures) ∙ ap foundSays (c .before .enum-told2 .given .1)))))
 
 pub entry-of-spec : {M : Type 1} → statement M
 entry-of-spec =

@@ -1,15 +1,19 @@
+use mathlib.Core.Path.{_≡_, refl, sym, _∙_}
+use Rattle.search_feed.specs.Data.{frameOf, dataOf}
+use Rattle.telling.specs.Calls.{searchedFrom}
+use Rattle.telling.proofs.Calls.{one-goes-on, one-ends, none-left, not-true, not-false}
 use borrow.Author.Needs.{needs}
 use Rattle.telling.proofs.told.tell_calls.Statement.{statement}
 use Rattle.telling.proofs.told.tell_calls.Tie as tie
 
 abbrev Inv-loop : tie.InvT-loop
-Inv-loop config slots words packed stars coords places triples at₀ found₀ turns₀ t17 t18 t19 at found turns = Unit {0}
+Inv-loop config slots words packed stars coords places triples at₀ found₀ turns₀ t17 t18 t19 at found turns = searchedFrom (dataOf (frameOf coords places config triples) slots words packed stars) 100000 turns at ≡ searchedFrom (dataOf (frameOf coords places config triples) slots words packed stars) 100000 18446744073709551615 at₀
 
 abbrev μ-loop : tie.MeasureT-loop
 μ-loop config slots words packed stars coords places triples at₀ found₀ turns₀ t17 t18 t19 at found turns = turns
 
 loop-holds : tie.Need-loop-holds Inv-loop μ-loop
-loop-holds c = search needs
+loop-holds c = refl
 
 search-requires : tie.Need-search-requires Inv-loop μ-loop
 search-requires c κs = search needs
@@ -27,13 +31,19 @@ loop-less : tie.Need-loop-less Inv-loop μ-loop
 loop-less c = search needs
 
 loop-again : tie.Need-loop-again Inv-loop μ-loop
-loop-again c = search needs
+loop-again c =
+    let l = c .before .before .before .before .before .before in
+    let s = c .before .before .before .before .search in
+    one-ends _ 100000 (l .loop .turns) (l .loop .at) (s .result) (s .ensures .0) (c .before .before .before .before .before .loop-test .taken) (sym (c .before .before .before .tell-answer .ensures) ∙ not-true _ (c .if1 .taken)) ∙ l .loop .inv
 
 loop-less-2 : tie.Need-loop-less-2 Inv-loop μ-loop
 loop-less-2 c = search needs
 
 loop-again-2 : tie.Need-loop-again-2 Inv-loop μ-loop
-loop-again-2 c = search needs
+loop-again-2 c =
+    let l = c .before .before .before .before .before .before in
+    let s = c .before .before .before .before .search in
+    one-goes-on _ 100000 (l .loop .turns) (l .loop .at) (s .result) (s .ensures .0) (c .before .before .before .before .before .loop-test .taken) (sym (c .before .before .before .tell-answer .ensures) ∙ not-false _ (c .if1 .left)) ∙ l .loop .inv
 
 slice-aggregate-text : tie.Need-slice-aggregate-text Inv-loop μ-loop
 slice-aggregate-text c = search needs
@@ -51,7 +61,9 @@ count-requires : tie.Need-count-requires Inv-loop μ-loop
 count-requires c κs = search needs
 
 returns : tie.Need-returns Inv-loop μ-loop
-returns c = search needs
+returns c =
+    let o = c .before .before .before .before .before in
+    none-left _ 100000 _ (o .before .loop .at) (o .loop-test .left) ∙ o .before .loop .inv
 
 pub tell-calls-spec : {M : Type 1} → statement M
 tell-calls-spec =
