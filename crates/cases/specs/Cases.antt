@@ -12,7 +12,7 @@ use Rattle.key_hash.specs.Key.{hashOf, homeOf, markOf}
 use Rattle.key_list.specs.Keys.{keysOf}
 use Rattle.combinations.specs.Lists.{All}
 use Rattle.combinations.specs.declared.Four.{Four}
-use Rattle.combinations.specs.Fours.{fours, foursOf}
+use Rattle.combinations.specs.Fours.{four, fours, foursOf}
 use Rattle.pattern_catalog.specs.Answers.{filledAt, empty}
 use Rattle.pattern_catalog.specs.SlotRead.{slotRead}
 use Rattle.preprocess.specs.Vectors.{unitOf}
@@ -47,10 +47,7 @@ pub data Case : Type 0 where
 abbrev pub f32 : ℕ → ℕ → Float
 f32 n d = round binary32 false n d
 
--- the four at these positions, and the key with these parts
-abbrev pub four : ℕ → ℕ → ℕ → ℕ → Four
-four a b c d = record { a = a; b = b; c = c; d = d }
-
+-- the key with these parts
 abbrev pub key : ℕ → ℕ → ℕ → ℕ → ℕ → List ℕ
 key a b c d e = a ∷ b ∷ c ∷ d ∷ e ∷ []
 

@@ -8,12 +8,9 @@ use mathlib.Core.Bool.{Bool, true, false, cond, _&&_}
 use borrow.Author.Tests.{eq-eqb, eqb-true}
 use lib.Dec.{eqb}
 use Rattle.combinations.specs.Lists.{each, span, upto, All}
-use Rattle.combinations.specs.Fours.{Four, Rising, foursOf, fours, sum, sameFour, times}
+use Rattle.combinations.specs.Fours.{Four, four, Rising, foursOf, fours, sum, sameFour, times}
 use Rattle.combinations.specs.Claims.{FoursRise, FoursAll, FoursOnce}
 use Rattle.combinations.proofs.Lists.{all-span, all-upto, in-upto}
-
-abbrev pub four : ℕ → ℕ → ℕ → ℕ → Four
-four a b c d = record { a = a; b = b; c = c; d = d }
 
 pub all-if : (P : Four → Type 0) (x y : ℕ) (q : Four) → (x ≡ y → P q) → All P (cond (eqb x y) (q ∷ []) [])
 all-if P x y q h = by (eqb x y) refl

@@ -10,7 +10,7 @@ use mathlib.Core.Option.{Option, none, some}
 use borrow.Author.Tests.{le-leb, lt-leb, eq-eqb, ne-eqb}
 use lib.Dec.{leb, eqb}
 use Rattle.combinations.specs.Lists.{each, span, upto, Follows}
-use Rattle.combinations.specs.Fours.{Four, foursOf, fours, sum}
+use Rattle.combinations.specs.Fours.{Four, four, foursOf, fours, sum}
 use Rattle.combinations.specs.Successor.{withA, withB, withC, fromSum, fromA, fromB, fromC, firstFour, nextFour}
 use Rattle.combinations.specs.Claims.{WalksFours}
 
@@ -57,9 +57,6 @@ cond-yes x y u v h = rw (le-leb x y h)
 
 cond-no : {A : Type 0} (x y : ℕ) (u v : A) → y < x → cond (leb x y) u v ≡ v
 cond-no x y u v h = rw (lt-leb x y h)
-
-abbrev four : ℕ → ℕ → ℕ → ℕ → Four
-four a b c d = record { a = a; b = b; c = c; d = d }
 
 module _ (n s : ℕ) where
   module _ (a b : ℕ) where

@@ -4,7 +4,7 @@ use Prim.Native.Nat.{ℕ, _≤_}
 use mathlib.Core.List.{List, _∷_, _++_}
 use lib.ListN.{length}
 use Rattle.combinations.specs.Lists.{All, Ordered, In, Follows, firstOf}
-use Rattle.combinations.specs.Fours.{Four, Rising, Before, fours, times, choose}
+use Rattle.combinations.specs.Fours.{Four, Rising, Precedes, fours, times, choose}
 use Rattle.combinations.specs.Successor.{firstFour, nextFour}
 
 -- Each four that is listed rises strictly below n: `fours-rise`.
@@ -18,12 +18,12 @@ FoursAll = (n : ℕ) (q : Four) → Rising n q → In q (fours n)
 abbrev pub FoursOnce : Type 0
 FoursOnce = (n : ℕ) (q : Four) → Rising n q → times q (fours n) ≡ 1
 
--- "listed by sum and within a sum lexicographically": each comes before every later one: `fours-ordered`; and no four comes before itself: `before-another`.
+-- "listed by sum and within a sum lexicographically": each precedes every later one: `fours-ordered`; and none precedes itself: `precedes-another`.
 abbrev pub FoursOrdered : Type 0
-FoursOrdered = (n : ℕ) → Ordered Before (fours n)
+FoursOrdered = (n : ℕ) → Ordered Precedes (fours n)
 
-abbrev pub BeforeAnother : Type 0
-BeforeAnother = (q : Four) → Before q q → ⊥
+abbrev pub PrecedesAnother : Type 0
+PrecedesAnother = (q : Four) → Precedes q q → ⊥
 
 -- There are n choose 4 of them: `fours-count`; at most 635,376 for n at most 64: `fours-64`.
 abbrev pub FoursCount : Type 0

@@ -8,6 +8,10 @@ use lib.Dec.{eqb}
 use Rattle.combinations.specs.Lists.{each, upto}
 pub use Rattle.combinations.specs.declared.Four.{Four}
 
+-- the four at these positions
+abbrev pub four : ℕ → ℕ → ℕ → ℕ → Four
+four a b c d = record { a = a; b = b; c = c; d = d }
+
 -- strictly rising positions below n
 pub record Rising (n : ℕ) (q : Four) : Type 0 where
   pub ab : q .a < q .b
@@ -19,17 +23,17 @@ pub record Rising (n : ℕ) (q : Four) : Type 0 where
 unfoldable pub sum : Four → ℕ
 sum q = q .a + q .b + q .c + q .d
 
--- q is lexicographically smaller than p: the first position in which they differ is the smaller one in q
-abbrev pub Smaller : Four → Four → Type 0
-Smaller q p =
+-- q is lexicographically before p: where they first differ q has the smaller position
+abbrev pub Before : Four → Four → Type 0
+Before q p =
     (q .a < p .a)
     ⊎ (((q .a ≡ p .a) × (q .b < p .b))
     ⊎ (((q .a ≡ p .a) × (q .b ≡ p .b) × (q .c < p .c))
     ⊎ ((q .a ≡ p .a) × (q .b ≡ p .b) × (q .c ≡ p .c) × (q .d < p .d))))
 
 -- q comes before p: by sum, and within a sum lexicographically
-abbrev pub Before : Four → Four → Type 0
-Before q p = (sum q < sum p) ⊎ ((sum q ≡ sum p) × Smaller q p)
+abbrev pub Precedes : Four → Four → Type 0
+Precedes q p = (sum q < sum p) ⊎ ((sum q ≡ sum p) × Before q p)
 
 -- all a < b < c < d < n with the sum s, lexicographically
 unfoldable pub foursOf : ℕ → ℕ → List Four

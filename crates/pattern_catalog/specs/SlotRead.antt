@@ -22,7 +22,7 @@ sectionPart packed (filledAt p) = bytesAt packed p
 sectionPart packed empty = []
 sectionPart packed (refused n) = []
 
--- where in the section the part begins: 22 bytes an entry before its own place; an empty part stands at the section's begin
+-- where in the section the part begins: an entry's at its place times 22, an empty part at the section's begin
 abbrev pub partStart : Answer → ℕ
 partStart (filledAt p) = p * 22
 partStart empty = 0

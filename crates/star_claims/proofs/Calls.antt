@@ -20,11 +20,12 @@ use Rattle.run_claims.specs.Listing.{Leaves, NoReadMade}
 use Rattle.undivided_run.specs.Step.{Lent, start, searchCall}
 use Rattle.run_claims.proofs.Demand3.{refused-keeps}
 use Rattle.run_claims.proofs.Progress.{zero-keeps}
+use Rattle.search_questions.specs.Questions.{firstNo}
 use Rattle.pattern_search.specs.Answers.{lentOf, said, shown, searched, searchedSays}
 use Rattle.pattern_search.specs.Listed.{lentBy, returned, answersOf, replies, lastState, run}
 use Rattle.pattern_search.proofs.Listed.{listed}
 use Rattle.state_received.specs.Received.{unknown, stateOf}
-use Rattle.numbers_handed.specs.Handed.{plainNumbers, stateNumbers, candidateNumbers, answerOf}
+use Rattle.numbers_handed.specs.Handed.{statusNumber, plainNumbers, stateNumbers, candidateNumbers, answerOf}
 use Rattle.star_search.specs.Calls.{Call, givenBy, answered}
 use Rattle.star_claims.specs.Calls.{answers, lastRaw, saidBy, numbersOf, foundIn, phaseOn, SameCalls, ListedThroughC, ListedFromZero}
 use Rattle.star_claims.specs.Claims.{nextOf, ZeroChangesNothing}
@@ -71,13 +72,13 @@ module _ (raw : StarState) (g : Call) (z : g .allowance ≡ 0) where
   handed t = answerOf raw (g .allowance) (searched t)
 
   zero-shown : (t : Answer Candidate × State) → NoReadMade (stateOf raw) (lentBy (givenBy g)) t
-      → ((s : Status) × (nextOf raw g ≡ Ends s) × ((handed t) .answer ≡ 2))
+      → ((k : ℕ) × (firstNo (givenBy g .data-of) (stateOf raw) ≡ some k) × ((handed t) .answer ≡ 3) × ((handed t) .number ≡ k) × ((handed t) .state ≡ raw))
+      ⊎ ((s : Status) × (nextOf raw g ≡ Ends s) × ((handed t) .answer ≡ 2) × ((handed t) .number ≡ statusNumber s))
       ⊎ ((r : Position) × (nextOf raw g ≡ Goes r) × ((handed t) .answer ≡ 1) × ((handed t) .state ≡ raw))
-      ⊎ (((handed t) .answer ≡ 3) × ((handed t) .state ≡ raw))
   unfolding said shown lentOf
-  zero-shown t (inl (k, n, e)) = inr (inr (ap (λ t. (handed t) .answer) e, ap (λ t. (handed t) .state) e))
-  zero-shown t (inr (inl (n, s, e, o))) = inl (s, e, ap (λ t. (handed t) .answer) o)
-  zero-shown t (inr (inr (n, r, e, o))) = inr (inl (r, e, ap (λ t. (handed t) .answer) o, ap (λ t. (handed t) .state) o ∙ rw z))
+  zero-shown t (inl (k, n, e)) = inl (k, n, ap (λ t. (handed t) .answer) e, ap (λ t. (handed t) .number) e, ap (λ t. (handed t) .state) e)
+  zero-shown t (inr (inl (n, s, e, o))) = inr (inl (s, e, ap (λ t. (handed t) .answer) o, ap (λ t. (handed t) .number) o))
+  zero-shown t (inr (inr (n, r, e, o))) = inr (inr (r, e, ap (λ t. (handed t) .answer) o, ap (λ t. (handed t) .state) o ∙ rw z))
 
 pub zero-changes-nothing : ZeroChangesNothing
 zero-changes-nothing raw g z =

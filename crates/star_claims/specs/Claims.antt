@@ -4,7 +4,7 @@ use Prim.Native.Nat.{ℕ, _<_}
 use mathlib.Core.Bool.{true, false}
 use mathlib.Core.Logic.{_⊎_, _↔_}
 use mathlib.Core.List.{List}
-use mathlib.Core.Option.{none}
+use mathlib.Core.Option.{none, some}
 use lib.ListN.{length, take, drop}
 use lib.Ieee.{Float}
 use Rattle.candidates.specs.declared.Candidate.{Candidate}
@@ -18,6 +18,7 @@ use Rattle.undivided_run.specs.Calls.{candidate}
 use Rattle.undivided_run.specs.Step.{start, look, firstRead}
 use Rattle.search_feed.specs.Data.{Data, settingsOk}
 use Rattle.search_feed.specs.Feed.{feed}
+use Rattle.search_questions.specs.Questions.{firstNo}
 use Rattle.pass_limits.specs.Limits.{scaleFits}
 use Rattle.pattern_search.specs.Answers.{searchedSays}
 use Rattle.pattern_search.specs.Listed.{Given, returned}
@@ -30,7 +31,7 @@ use Rattle.fov_sweep.specs.Sweep.{sweepFits}
 use Rattle.settings_received.specs.Settings.{optionOf, configOf}
 use Rattle.state_received.specs.Received.{stateOf}
 use Rattle.candidate_received.specs.Received.{candidateFrom}
-use Rattle.numbers_handed.specs.Handed.{plainNumbers, stateNumbers, candidateNumbers}
+use Rattle.numbers_handed.specs.Handed.{statusNumber, plainNumbers, stateNumbers, candidateNumbers}
 use Rattle.results_handed.specs.Results.{openedNumber, partNumbers, completedNumbers}
 use Rattle.star_search.specs.Calls.{Call, givenBy, answered}
 use Rattle.star_numbers.specs.declared.StarSettings.{StarSettings}
@@ -52,13 +53,14 @@ CandidateBack = (c : Candidate) → length (c .places) ≡ 4 → length (c .star
 abbrev pub nextOf : StarState → Call → Next
 nextOf raw g = let D = givenBy g .data-of in look (firstRead (feed D) (D .frame .config .cap)) (stateOf raw .phase)
 
--- "When no read is left the answer is ended, even with allowance 0; otherwise allowance 0 changes nothing": with allowance 0 the answer is 2 (ended) and no read
--- is left; or it is 1 (used) and a read is left, or 3 (refused), and the state handed back is the raw state as received, unused numbers too: `zero-changes-nothing`.
+-- "When no read is left the answer is ended, even with allowance 0; otherwise allowance 0 changes nothing": with allowance 0 a call is refused (3) by the first no of
+-- questions 1 to 8; else it is ended (2) with its status where no read is left, and used (1) where one is. Refused or used, it hands back the raw state as received,
+-- unused numbers too: `zero-changes-nothing`.
 abbrev pub ZeroChangesNothing : Type 0
 ZeroChangesNothing = (raw : StarState) (g : Call) → g .allowance ≡ 0
-    → ((s : Status) × (nextOf raw g ≡ Ends s) × ((answered raw g) .answer ≡ 2))
+    → ((k : ℕ) × (firstNo (givenBy g .data-of) (stateOf raw) ≡ some k) × ((answered raw g) .answer ≡ 3) × ((answered raw g) .number ≡ k) × ((answered raw g) .state ≡ raw))
+    ⊎ ((s : Status) × (nextOf raw g ≡ Ends s) × ((answered raw g) .answer ≡ 2) × ((answered raw g) .number ≡ statusNumber s))
     ⊎ ((r : Position) × (nextOf raw g ≡ Goes r) × ((answered raw g) .answer ≡ 1) × ((answered raw g) .state ≡ raw))
-    ⊎ (((answered raw g) .answer ≡ 3) × ((answered raw g) .state ≡ raw))
 
 -- All zero is the fresh state: `zero-is-fresh`.
 abbrev pub ZeroIsFresh : Type 0

@@ -2,7 +2,7 @@
 use mathlib.Core.Path.{_≡_, refl, sym, ap, _∙_}
 use Prim.Native.Nat.{ℕ, zero, suc, _-_, _<_, _≤_}
 use native.Mathlib.Omega.{arith}
-use mathlib.Core.Bool.{Bool, true, false, not, false≢true}
+use mathlib.Core.Bool.{Bool, true, false, false≢true}
 use mathlib.Core.Option.{Option, none, some}
 use mathlib.Core.List.{[], _∷_}
 use types.Run.{OneOf, miss}
@@ -23,15 +23,6 @@ use Rattle.search_feed.specs.Feed.{feed}
 use Rattle.search_questions.specs.Questions.{firstNo}
 use Rattle.pattern_search.specs.Answers.{lentOf, said}
 use Rattle.telling.specs.Calls.{called, letThrough, goesOn, searchedFrom}
-
--- what a negated test says of the test
-pub not-true : (b : Bool) → not b ≡ true → b ≡ false
-not-true false e = refl
-not-true true e = sym e
-
-pub not-false : (b : Bool) → not b ≡ false → b ≡ true
-not-false true e = refl
-not-false false e = sym e
 
 -- a call with allowance 0 that the questions let through is not refused
 zero-through : (st : State) (w : Next) → letThrough (said ((zeroCall {C = Found} st w) .0)) ≡ true

@@ -249,7 +249,7 @@ fn with_answer(found: u64, answer: Answer) -> u64 {
     }
 }
 
-// Calls until one ends the search or is refused.
+// Calls until one ends the search or is refused, at most 2^64 - 1 of them: a state counts fewer reads than that, and each call makes one.
 fn tell_calls(
     config: SearchConfig,
     slots: u64,
@@ -346,7 +346,7 @@ fn tell_frame(
     }
 }
 
-// A whole search from a state, and the state that it leaves.
+// A whole search from a state, in calls of CALL reads, and the state that it leaves.
 pub fn tell_search(
     config: SearchConfig,
     slots: u64,

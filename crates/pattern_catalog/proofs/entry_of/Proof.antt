@@ -1,8 +1,7 @@
-use mathlib.Core.Path.{sym, ap, _∙_, refl}
-use native.Mathlib.Omega.{arith}
-use Rattle.pattern_catalog.specs.Answers.{foundSays}
+use mathlib.Core.Path.{refl, sym, ap, _∙_}
 use Prim.Native.Nat.{_+_}
-use Rattle.pattern_catalog.specs.Answers.{Answer}
+use native.Mathlib.Omega.{arith}
+use Rattle.pattern_catalog.specs.Answers.{Answer, foundSays}
 use Rattle.pattern_catalog.specs.SlotRead.{sectionPart, partStart}
 use Rattle.pattern_entry.proofs.Bytes.{part-is}
 use Rattle.pattern_catalog.proofs.Slots.{read-place}
@@ -56,13 +55,22 @@ part-result-end-3 : tie.Need-part-result-end-3
 part-result-end-3 c = search needs
 
 returns : tie.Need-returns
-returns c = let a = c .before .before .before .before .before .before .before .args in (part-is (a .packed .now) _ ∙ sym (ap (sectionPart (a .packed .now)) (sym (c .before .before .before .before .find .ensures) ∙ ap foundSays (c .before .before .p .given .1))), (refl, sym (ap (λ (x : Answer). partStart x + a .packed .ptr .1) (sym (c .before .before .before .before .find .ensures) ∙ ap foundSays (c .before .before .p .given .1)))))
+returns c =
+    let a = c .before .before .before .before .before .before .before .args in
+    let e = sym (c .before .before .before .before .find .ensures) ∙ ap foundSays (c .before .before .p .given .1) in
+    (part-is (a .packed .now) _ ∙ sym (ap (sectionPart (a .packed .now)) e), (refl, sym (ap (λ (x : Answer). partStart x + a .packed .ptr .1) e)))
 
 returns-2 : tie.Need-returns-2
-returns-2 c = let a = c .before .before .before .before .before .before .args in (sym (ap (sectionPart (a .packed .now)) (sym (c .before .before .before .find .ensures) ∙ ap foundSays (c .before .enum-told .given .1))), (refl, sym (ap (λ (x : Answer). partStart x + a .packed .ptr .1) (sym (c .before .before .before .find .ensures) ∙ ap foundSays (c .before .enum-told .given .1)))))
+returns-2 c =
+    let a = c .before .before .before .before .before .before .args in
+    let e = sym (c .before .before .before .find .ensures) ∙ ap foundSays (c .before .enum-told .given .1) in
+    (sym (ap (sectionPart (a .packed .now)) e), (refl, sym (ap (λ (x : Answer). partStart x + a .packed .ptr .1) e)))
 
 returns-3 : tie.Need-returns-3
-returns-3 c = let a = c .before .before .before .before .before .before .args in (sym (ap (sectionPart (a .packed .now)) (sym (c .before .before .before .find .ensures) ∙ ap foundSays (c .before .enum-told2 .given .1))), (refl, sym (ap (λ (x : Answer). partStart x + a .packed .ptr .1) (sym (c .before .before .before .find .ensures) ∙ ap foundSays (c .before .enum-told2 .given .1)))))
+returns-3 c =
+    let a = c .before .before .before .before .before .before .args in
+    let e = sym (c .before .before .before .find .ensures) ∙ ap foundSays (c .before .enum-told2 .given .1) in
+    (sym (ap (sectionPart (a .packed .now)) e), (refl, sym (ap (λ (x : Answer). partStart x + a .packed .ptr .1) e)))
 
 pub entry-of-spec : {M : Type 1} → statement M
 entry-of-spec =

@@ -1,6 +1,7 @@
 use mathlib.Core.Path.{sym, ap, _∙_}
 use Rattle.pattern_search.specs.declared.Searched.{Searched}
-use Rattle.telling.proofs.Calls.{refused-any, not-true}
+use borrow.Author.Tests.{not-true}
+use Rattle.telling.proofs.Calls.{refused-any}
 use borrow.Author.Needs.{needs}
 use Rattle.telling.proofs.told.tell_call.Statement.{statement}
 use Rattle.telling.proofs.told.tell_call.Tie as tie

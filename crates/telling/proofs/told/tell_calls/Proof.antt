@@ -1,7 +1,8 @@
 use mathlib.Core.Path.{_≡_, refl, sym, _∙_}
 use Rattle.search_feed.specs.Data.{frameOf, dataOf}
 use Rattle.telling.specs.Calls.{searchedFrom}
-use Rattle.telling.proofs.Calls.{one-goes-on, one-ends, none-left, not-true, not-false}
+use Rattle.telling.proofs.Calls.{one-goes-on, one-ends, none-left}
+use borrow.Author.Tests.{not-true, not-false}
 use borrow.Author.Needs.{needs}
 use Rattle.telling.proofs.told.tell_calls.Statement.{statement}
 use Rattle.telling.proofs.told.tell_calls.Tie as tie

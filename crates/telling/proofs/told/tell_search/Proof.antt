@@ -1,5 +1,6 @@
 use mathlib.Core.Path.{sym, _∙_}
-use Rattle.telling.proofs.Calls.{refused-whole, not-true}
+use borrow.Author.Tests.{not-true}
+use Rattle.telling.proofs.Calls.{refused-whole}
 use borrow.Author.Needs.{needs}
 use Rattle.telling.proofs.told.tell_search.Statement.{statement}
 use Rattle.telling.proofs.told.tell_search.Tie as tie
