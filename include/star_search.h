@@ -25,7 +25,7 @@
  *   - Each array is lent as a pointer and a number of ELEMENTS (not bytes). It stays readable, and unwritten, until the call returns.
  *   - Each pointer is aligned for its element type and is not null, also where the length is 0: lend any object of that type then.
  *   - `out` of star_sweep is writable and no other thread touches it during the call.
- *   - The stack has room: STAR_STACK bytes are enough for any call. The deepest needs about 37 kB, and include/test holds the archive to the limit.
+ *   - The stack has room: STAR_STACK bytes are enough for any call. The deepest needs about 37 kB, and include/test checks the archive against the limit.
  *   - The floating-point control register is as C starts with it: rounding to nearest, exceptions masked, subnormals kept (no
  *     flush-to-zero, no denormals-are-zero).
  *   - floats are IEEE 754 binary32; all arrays are in the host's byte order, which is little-endian on x86-64.
@@ -101,7 +101,7 @@ enum {
     STAR_NOT_DONE = 1      /* refused: number is the question's */
 };
 
-/* Where a search stands between two calls. All zero is a fresh state. A host keeps it, copies it or stores it as it likes; nothing
+/* The state of a search between two calls. All zero is a fresh state. A host keeps it, copies it or stores it as it likes; nothing
  * in it points anywhere. Fields that a phase doesn't use are ignored, and are 0 in every state that a call makes. A refused call makes none, and
  * neither does a call with allowance 0 that answers STAR_USED: they give back the state as received, byte for byte. */
 typedef struct StarState {

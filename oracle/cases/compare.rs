@@ -1,7 +1,7 @@
 //! Oracle and model beside each other, on one case.
 
-use model::complete::{complete, Told};
-use model::replay::{answer_line, complete_line, Desk, Record};
+use model::complete::{complete, GivenCandidate};
+use model::replay::{answer_line, complete_line, Inputs, Record};
 use model::run::{undivided, Machine as ModelMachine};
 use model::search::{questions, FRESH};
 use model::sweep::sweep;
@@ -68,12 +68,12 @@ fn divided_differs(case: &Case, taken: &Taken, seed: u64) -> Option<String> {
     let run = undivided(&case.lent);
     let mut machine = ModelMachine { run: &run, n: 0 };
     let mut theirs = Machine { taken, n: 0 };
-    let mut desk = Desk { lent: case.lent.clone(), state: FRESH };
+    let mut inputs = Inputs { lent: case.lent.clone(), state: FRESH };
     let mut rng = Rng::new(seed ^ 0xD1F1);
     for _ in 0..60 {
         let allowance = allowance(&mut rng, taken.record.reads);
         let mut ours = String::new();
-        desk.take(&Record::Call(allowance), &mut ours);
+        inputs.take(&Record::Call(allowance), &mut ours);
         let answer = machine.call(allowance, 0);
         let third = answer_line(&answer, machine.patterns(), machine.n as u64);
         let (line, more) = theirs.call(allowance);
@@ -99,10 +99,10 @@ pub fn allowance(rng: &mut Rng, reads: u64) -> u64 {
     }
 }
 
-/// What completing is told of a recorded candidate.
-pub fn told(found: &record::Candidate) -> Told {
+/// What completing is given of a recorded candidate.
+pub fn given(found: &record::Candidate) -> GivenCandidate {
     let places = found.places.map(|place| place as u32);
-    Told { pass: found.pass as u32, places, stars: found.stars, field: found.field, mark: found.mark, scale: found.scale }
+    GivenCandidate { pass: found.pass as u32, places, stars: found.stars, field: found.field, mark: found.mark, scale: found.scale }
 }
 
 /// The line of completing a recorded candidate; a scale outside document 01's limits is refused with 14.
@@ -117,7 +117,7 @@ pub fn completed(found: &record::Candidate) -> String {
 /// The first candidate whose vectors differ.
 fn completing_differs(case: &Case, taken: &Taken) -> Option<String> {
     for found in &taken.record.candidates {
-        let ours = complete_line(complete(&case.lent.frame, &case.lent.table, &told(found)));
+        let ours = complete_line(complete(&case.lent.frame, &case.lent.table, &given(found)));
         let theirs = completed(found);
         if ours != theirs {
             return Some(format!("completing {found:?}: oracle {theirs}, model {ours}"));
@@ -150,7 +150,7 @@ fn slots_differ(case: &Case) -> Option<String> {
     let catalogue = record::catalogue(given.slots, &given.occupancy, given.packed.clone());
     for slot in 0..given.slots {
         let theirs = record::slot(&catalogue, slot);
-        let ours = slot_read(&case.lent.table, slot as u64).expect("a sound table").map(|bytes| {
+        let ours = slot_read(&case.lent.table, slot as u64).expect("a valid table").map(|bytes| {
             let held = entry(bytes);
             (held.stars, held.edge.to_bits(), held.mark)
         });

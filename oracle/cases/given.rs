@@ -224,7 +224,7 @@ fn generated(rng: &mut Rng) -> Given {
         catalog_nside: 4,
         ..GenerateDatabaseConfig::default()
     };
-    let base = SolverDatabase::generate_from_star_list(stars, &config, 2000.0).expect("a sound configuration");
+    let base = SolverDatabase::generate_from_star_list(stars, &config, 2000.0).expect("a valid configuration");
     (given.slots, given.occupancy, given.packed) = record::parts(&base.pattern_catalog);
     given.pattern_count = base.props.num_patterns;
     given.stars = base.star_vectors.clone();

@@ -4,7 +4,7 @@ use model::replay::Record;
 use model::search::{questions, FRESH};
 use model::table::Table;
 
-use crate::compare::{allowance, completed, told};
+use crate::compare::{allowance, completed, given};
 use crate::exact;
 use crate::given::{self, KINDS};
 use crate::oracle::{passes, Case, Machine, Taken};
@@ -55,7 +55,7 @@ pub fn undivided(sheet: &mut Sheet, cases: &[(Case, Taken)]) {
         }
         let mut rng = Rng::new(at as u64);
         for found in taken.record.candidates.iter().filter(|_| rng.once_in(6)).take(4) {
-            sheet.check(Record::Complete(told(found)), &completed(found));
+            sheet.check(Record::Complete(given(found)), &completed(found));
         }
     }
 }
@@ -130,7 +130,7 @@ pub fn exact_limits(sheet: &mut Sheet, each: usize) {
             let lines = Machine { taken: &taken, n: 0 }.run(u64::MAX);
             sheet.check(Record::Run(u64::MAX), &lines);
             for found in taken.record.candidates.iter().take(1) {
-                sheet.check(Record::Complete(told(found)), &completed(found));
+                sheet.check(Record::Complete(given(found)), &completed(found));
             }
         }
         if counts.len() == 7 && counts.values().all(|count| *count >= each) {
@@ -170,9 +170,9 @@ pub fn stays_fresh(sheet: &mut Sheet, cases: &[(Case, Taken)]) {
         sheet.put(Record::Call(0));
         sheet.put(Record::Settings(case.lent.settings));
         sheet.put(Record::Fresh);
-        let mut unsound = case.lent.table.clone();
-        unsound.stars.clear();
-        sheet.put(Record::Table(unsound));
+        let mut invalid = case.lent.table.clone();
+        invalid.stars.clear();
+        sheet.put(Record::Table(invalid));
         sheet.put(Record::Call(u64::MAX));
         sheet.put(Record::Settings(bare));
         sheet.put(Record::Call(0));
@@ -250,7 +250,7 @@ pub fn ties(sheet: &mut Sheet) {
         sheet.case(case.kind);
         lend(sheet, &case);
         for found in list {
-            sheet.check(Record::Complete(told(found)), &completed(found));
+            sheet.check(Record::Complete(given(found)), &completed(found));
         }
     }
 }

@@ -1,6 +1,6 @@
-//! Opening checks and slot reads on sound and damaged tables, question 9 in mid-call, sweeps and completings.
+//! Opening checks and slot reads on valid and damaged tables, question 9 in mid-call, sweeps and completings.
 
-use model::complete::Told;
+use model::complete::GivenCandidate;
 use model::replay::Record;
 use model::search::Lent;
 use model::table::Table;
@@ -108,7 +108,7 @@ fn slot_reads(sheet: &mut Sheet, table: &Table, rng: &mut Rng) {
     }
 }
 
-/// Every slot of some sound tables, and blocks of the paper's own example.
+/// Every slot of some valid tables, and blocks of the paper's own example.
 pub fn slots(sheet: &mut Sheet, cases: &[(Case, Taken)]) {
     for (case, _) in cases.iter().filter(|(case, _)| case.given.slots < 600).step_by(9).take(6) {
         sheet.case(&format!("every slot, {}", case.kind));
@@ -207,13 +207,13 @@ fn random_sweeps(sheet: &mut Sheet) {
 }
 
 /// One thing about a completing changed.
-fn told_changes(told: Told, lent: &Lent) -> Vec<Told> {
+fn changed_candidates(given: GivenCandidate, lent: &Lent) -> Vec<GivenCandidate> {
     let length = lent.frame.places.len() as u32;
     let passes = lent.frame.triples.len() as u32 / 3;
     let stars = lent.table.stars.len() as u32 / 3;
-    let mut list = vec![told, Told { mark: !told.mark, ..told }];
+    let mut list = vec![given, GivenCandidate { mark: !given.mark, ..given }];
     for pass in [passes - 1, passes, u32::MAX] {
-        list.push(Told { pass, ..told });
+        list.push(GivenCandidate { pass, ..given });
     }
     for places in [
         [0, 1, 2, 3],
@@ -228,26 +228,26 @@ fn told_changes(told: Told, lent: &Lent) -> Vec<Told> {
         [0, 2, 1, 3],
         [0, 1, 3, 2],
     ] {
-        list.push(Told { places, ..told });
+        list.push(GivenCandidate { places, ..given });
     }
     for scale in [0.0, -0.0, 1e-45, -1.0, 16.0, up(16.0), f32::NAN, f32::INFINITY, 0.25, 3.7] {
         for mark in [false, true] {
-            list.push(Told { scale, mark, ..told });
+            list.push(GivenCandidate { scale, mark, ..given });
         }
     }
     for star in [0, stars - 1, stars, u32::MAX, 0x5555_5556] {
         for at in [0, 3] {
-            let mut changed = told;
+            let mut changed = given;
             changed.stars[at] = star;
             list.push(changed);
         }
     }
-    list.push(Told { field: f32::NAN, ..told });
-    list.push(Told { pass: passes, stars: [stars; 4], ..told });
+    list.push(GivenCandidate { field: f32::NAN, ..given });
+    list.push(GivenCandidate { pass: passes, stars: [stars; 4], ..given });
     list
 }
 
-/// Completings with each number at its limits, over sound and damaged lendings.
+/// Completings with each number at its limits, over valid and damaged lendings.
 pub fn completings(sheet: &mut Sheet, cases: &[(Case, Taken)]) {
     for (case, _) in cases
         .iter()
@@ -259,43 +259,43 @@ pub fn completings(sheet: &mut Sheet, cases: &[(Case, Taken)]) {
         sheet.case(&format!("completing, {}", case.kind));
         sheet.put(Record::Table(lent.table.clone()));
         sheet.put(Record::Frame(lent.frame.clone()));
-        let told = Told { pass: 0, places: [0, 1, 2, 3], stars: [0, 1, 2, 3], field: 1.0, mark: true, scale: 0.01 };
-        for told in told_changes(told, lent) {
-            sheet.put(Record::Complete(told));
+        let given = GivenCandidate { pass: 0, places: [0, 1, 2, 3], stars: [0, 1, 2, 3], field: 1.0, mark: true, scale: 0.01 };
+        for given in changed_candidates(given, lent) {
+            sheet.put(Record::Complete(given));
         }
-        refused_lendings(sheet, lent, told);
+        refused_lendings(sheet, lent, given);
     }
 }
 
 /// Lendings that completing's other questions refuse, and settings that it never asks about.
-fn refused_lendings(sheet: &mut Sheet, lent: &Lent, told: Told) {
+fn refused_lendings(sheet: &mut Sheet, lent: &Lent, given: GivenCandidate) {
     let mut frame = lent.frame.clone();
     frame.coords.push(1.0);
     sheet.put(Record::Frame(frame.clone()));
-    sheet.put(Record::Complete(told));
+    sheet.put(Record::Complete(given));
     frame.coords.pop();
     frame.coords[0] = f32::NAN;
     sheet.put(Record::Frame(frame.clone()));
-    sheet.put(Record::Complete(told));
+    sheet.put(Record::Complete(given));
     frame.coords[0] = 1.0;
     frame.places[0] = frame.places[1];
     sheet.put(Record::Frame(frame));
-    sheet.put(Record::Complete(told));
+    sheet.put(Record::Complete(given));
     let mut frame = lent.frame.clone();
     frame.triples[1] = up(16.0);
     sheet.put(Record::Frame(frame));
-    sheet.put(Record::Complete(Told { pass: 9_999, ..told }));
+    sheet.put(Record::Complete(GivenCandidate { pass: 9_999, ..given }));
     sheet.put(Record::Frame(lent.frame.clone()));
     let mut table = Table { slots: 77, words: Vec::new(), packed: Vec::new(), stars: lent.table.stars.clone() };
     sheet.put(Record::Table(table.clone()));
-    sheet.put(Record::Complete(told));
+    sheet.put(Record::Complete(given));
     table.stars.pop();
     sheet.put(Record::Table(table.clone()));
-    sheet.put(Record::Complete(Told { pass: 9_999, ..told }));
+    sheet.put(Record::Complete(GivenCandidate { pass: 9_999, ..given }));
     table.stars = lent.table.stars.clone();
     for value in [1.0, -1.0, up(1.0), -up(1.0), f32::NAN, f32::INFINITY] {
         table.stars[11] = value;
         sheet.put(Record::Table(table.clone()));
-        sheet.put(Record::Complete(told));
+        sheet.put(Record::Complete(given));
     }
 }

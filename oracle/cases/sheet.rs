@@ -1,6 +1,6 @@
 //! A list in the making: its stream, its expected lines, and the model that answers beside the oracle.
 
-use model::replay::{fits, write, Desk, Record};
+use model::replay::{fits, write, Inputs, Record};
 
 /// A stream with its expected lines and its cases.
 #[derive(Default)]
@@ -8,7 +8,7 @@ pub struct Sheet {
     pub stream: Vec<u8>,
     pub expected: String,
     cases: Vec<(String, usize, usize)>,
-    desk: Desk,
+    inputs: Inputs,
     records: usize,
     lines: usize,
 }
@@ -34,7 +34,7 @@ impl Sheet {
     pub fn put(&mut self, record: Record) -> String {
         assert!(fits(&record), "a record beyond the program's room");
         let mut lines = String::new();
-        self.desk.take(&record, &mut lines);
+        self.inputs.take(&record, &mut lines);
         write(&mut self.stream, &record);
         self.records += 1;
         self.lines += lines.matches('\n').count();

@@ -42,7 +42,7 @@ fn sky(rng: &mut Rng) -> Given {
         catalog_nside: 4,
         ..GenerateDatabaseConfig::default()
     };
-    let base = SolverDatabase::generate_from_star_list(stars, &config, 2000.0).expect("a sound configuration");
+    let base = SolverDatabase::generate_from_star_list(stars, &config, 2000.0).expect("a valid configuration");
     let (slots, occupancy, packed) = record::parts(&base.pattern_catalog);
     Given {
         slots,
@@ -153,7 +153,7 @@ fn row<T: ToString>(numbers: &[T]) -> String {
 }
 
 /// What `find` says of a candidate: the read that it came from by the model, all else by the oracle's record.
-fn told_candidate(found: &record::Candidate, combination: &Combination, place: Place) -> String {
+fn report_candidate(found: &record::Candidate, combination: &Combination, place: Place) -> String {
     let (key, keys, probe, slot) = (place.key + 1, combination.keys.len(), place.probe, place.slot);
     let (kept, places, stars) = (row(&combination.four), row(&found.places), row(&found.stars));
     let (field, degrees) = (f64::from(found.field), f64::from(found.field).to_degrees());
@@ -165,13 +165,13 @@ fn told_candidate(found: &record::Candidate, combination: &Combination, place: P
 }
 
 /// What `find` says of one search.
-fn told(name: &str, case: &Case, taken: &Taken) -> String {
+fn reported(name: &str, case: &Case, taken: &Taken) -> String {
     let (lent, run) = (&case.lent, &taken.record);
     let kept = Kept::new(lent, 0).places;
     let (spots, passes) = (count(lent.frame.places.len() as u64, "spot"), count(run.passes.len() as u64, "pass"));
     let mut text = format!("{name}: {spots}, {passes}\n  pass 1: {} kept after thinning: places{}\n", kept.len(), row(&kept));
     if let Some((combination, place)) = first_found(case, taken) {
-        text += &told_candidate(&run.candidates[0], &combination, place);
+        text += &report_candidate(&run.candidates[0], &combination, place);
     }
     let status = match taken.status {
         Status::TooFew => "TooFew (fewer than 4 kept)",
@@ -184,7 +184,7 @@ fn told(name: &str, case: &Case, taken: &Taken) -> String {
 }
 
 /// What `find` says of the table.
-fn told_table(lent: &Lent) -> String {
+fn report_table(lent: &Lent) -> String {
     assert!(table::open(&lent.table) == 0, "the source's own table passes the opening check");
     let (slots, entries, stars) = (lent.table.slots, lent.table.packed.len() as u64 / 22, lent.table.stars.len() as u64 / 3);
     format!("table: {}, {}, {}; opening check passed\n", count(slots, "slot"), count(entries, "pattern"), count(stars, "star"))
@@ -195,8 +195,8 @@ const HEAD: &str = "\
 // The bundled table and frames, made by `cases story` (oracle/README.md): a table by the source's own generator over a patch of made
 // sky, frame A of its stars, and frame B with glint.
 use search_feed::SearchConfig;
-use tolerance::Tolerance;
-use undivided_run::Cap;
+use settings::tolerance::Tolerance;
+use undivided_run::state::Cap;
 
 ";
 
@@ -227,7 +227,7 @@ pub struct Story {
 
 /// Is frame A the mission's: the first candidate on the third key of the first four, not on its home slot, a field within a hundredth
 /// of the camera's, and places that aren't the positions in the kept list?
-fn as_told(a: &Case, taken: &Taken) -> bool {
+fn as_reported(a: &Case, taken: &Taken) -> bool {
     let Some((combination, place)) = first_found(a, taken) else { return false };
     let found = &taken.record.candidates[0];
     let near = (f64::from(found.field).to_degrees() / FIELD - 1.0).abs() < 0.01;
@@ -247,7 +247,7 @@ fn story(seed: u64) -> Option<Story> {
             return None;
         }
         let taken = a.run();
-        if as_told(&a, &taken) {
+        if as_reported(&a, &taken) {
             let b = Case::new("frame B", frame_b(rng, &sky, &attitude));
             let dark = b.run();
             let three = Kept::new(&b.lent, 0).places.len() == 3 && dark.status == Status::TooFew;
@@ -299,7 +299,7 @@ impl Story {
 
     /// What `find` says without arguments.
     pub fn expected(&self) -> String {
-        told_table(&self.a.0.lent) + &told("frame A", &self.a.0, &self.a.1) + &told("frame B", &self.b.0, &self.b.1)
+        report_table(&self.a.0.lent) + &reported("frame A", &self.a.0, &self.a.1) + &reported("frame B", &self.b.0, &self.b.1)
     }
 
     /// The table and the frames as the program's source.
@@ -344,8 +344,8 @@ impl Story {
     pub fn check(&self) {
         for (case, taken) in [&self.a, &self.b] {
             let mut lines = String::new();
-            let mut desk = replay::Desk { lent: case.lent.clone(), state: model::search::FRESH };
-            desk.take(&Record::Run(u64::MAX), &mut lines);
+            let mut inputs = replay::Inputs { lent: case.lent.clone(), state: model::search::FRESH };
+            inputs.take(&Record::Run(u64::MAX), &mut lines);
             let oracle = crate::oracle::Machine { taken, n: 0 }.run(u64::MAX);
             assert!(lines == oracle, "oracle and model differ: oracle {oracle}, model {lines}");
         }

@@ -1,6 +1,6 @@
-// The proved catalogue beside a plain reading of document 01 on sound and damaged tables, and the opening check's speed beside a plain pass over
+// The proved catalogue beside a plain reading of document 01 on valid and damaged tables, and the opening check's speed beside a plain pass over
 // the same memory. From the repository's root:
-//   rt staticlib star_search && rt staticlib catalog_c && rustc --edition 2021 -O -L native=target/staticlib -o target/catalog_bench oracle/catalog_bench/main.rs && target/catalog_bench
+//   rt staticlib star_search && rt staticlib bench_exports && rustc --edition 2021 -O -L native=target/staticlib -o target/catalog_bench oracle/catalog_bench/main.rs && target/catalog_bench
 use std::collections::BTreeMap;
 use std::hint::black_box;
 use std::time::Instant;
@@ -33,7 +33,7 @@ extern "C" {
     fn star_entry(slots: u64, w: *const u64, wn: usize, p: *const u8, pn: usize, slot: u64) -> Part;
 }
 
-#[link(name = "catalog_c", kind = "static")]
+#[link(name = "bench_exports", kind = "static")]
 extern "C" {
     fn catalog_entry(slots: u64, w: *const u64, wn: usize, p: *const u8, pn: usize, slot: u64) -> RawEntry;
 }
@@ -63,8 +63,8 @@ struct Table {
 }
 
 impl Table {
-    // A sound table, about half full.
-    fn sound(r: &mut Rng, slots: u64, n_stars: u64) -> Self {
+    // A valid table, about half full.
+    fn valid(r: &mut Rng, slots: u64, n_stars: u64) -> Self {
         let blocks = ((slots + 447) / 448) as usize;
         let mut words = vec![0u64; blocks * 8];
         let mut packed = Vec::new();
@@ -155,11 +155,11 @@ impl Table {
         }
         p as u64
     }
-    fn star_sound(&self, i: usize) -> bool {
+    fn star_valid(&self, i: usize) -> bool {
         i < self.stars.len() / 3 && self.stars[i * 3..i * 3 + 3].iter().all(|x| x.is_finite() && x.abs() <= 1.0)
     }
-    fn entry_sound(&self, e: &[u8]) -> bool {
-        (0..4).all(|k| self.star_sound(u32::from_le_bytes(e[k * 4..k * 4 + 4].try_into().unwrap()) as usize))
+    fn entry_valid(&self, e: &[u8]) -> bool {
+        (0..4).all(|k| self.star_valid(u32::from_le_bytes(e[k * 4..k * 4 + 4].try_into().unwrap()) as usize))
     }
     fn open(&self) -> u32 {
         if !self.fits() {
@@ -182,7 +182,7 @@ impl Table {
         for s in 0..self.slots as usize {
             if self.bit(s) {
                 let p = self.place(s) as usize;
-                if p * 22 + 22 > self.packed.len() || !self.entry_sound(&self.packed[p * 22..p * 22 + 22]) {
+                if p * 22 + 22 > self.packed.len() || !self.entry_valid(&self.packed[p * 22..p * 22 + 22]) {
                     return 9;
                 }
             }
@@ -262,7 +262,7 @@ fn compare(r: &mut Rng) {
             2 => 890 + r.below(12),
             _ => r.below(3000),
         };
-        let mut t = Table::sound(r, slots, 1 + round % 40);
+        let mut t = Table::valid(r, slots, 1 + round % 40);
         t.damage(r);
         let want = t.open();
         assert_eq!(t.proved_open(), want, "round {round}");
@@ -304,9 +304,9 @@ fn main() {
     let mut r = Rng(88172645463325252);
     compare(&mut r);
     for (n_stars, damaged) in [(9_000, false), (100_000, false), (1 << 20, false), (1 << 20, true)] {
-        let mut t = Table::sound(&mut r, 1 << 24, n_stars);
+        let mut t = Table::valid(&mut r, 1 << 24, n_stars);
         if damaged {
-            // The last star is unsound and in no entry: the check must then look at the stars of each entry.
+            // The last star is invalid and in no entry: the check must then look at the stars of each entry.
             let last = t.stars.len() - 3;
             t.stars[last] = 2.0;
             let named = (n_stars as u32 - 1).to_le_bytes();
@@ -325,7 +325,7 @@ fn main() {
         println!(
             "2^24 slots, {} entries, {n_stars} stars{}, {:.0} MB: opening {:.1} ms, {:.2} GB/s; plain pass {:.1} ms, {:.2} GB/s",
             t.packed.len() / 22,
-            if damaged { ", one unused star unsound" } else { "" },
+            if damaged { ", one unused star invalid" } else { "" },
             bytes / 1e6,
             check * 1e3,
             bytes / check / 1e9,
@@ -334,7 +334,7 @@ fn main() {
         );
         if n_stars == 9_000 {
             time_reads(&t);
-            time_reads(&Table::sound(&mut r, 65_500, n_stars));
+            time_reads(&Table::valid(&mut r, 65_500, n_stars));
         }
     }
 }

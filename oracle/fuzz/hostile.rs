@@ -46,7 +46,7 @@ pub fn whole(rng: &mut Rng) -> u64 {
     }
 }
 
-/// Settings of a sound lending.
+/// Settings of a valid lending.
 fn settings(lent: &Lent) -> Settings {
     let given = &lent.settings;
     Settings {
@@ -66,7 +66,7 @@ fn settings(lent: &Lent) -> Settings {
 }
 
 impl Lending {
-    /// A sound lending.
+    /// A valid lending.
     pub fn of(lent: &Lent) -> Lending {
         Lending {
             coords: lent.frame.coords.clone(),
@@ -153,10 +153,10 @@ impl Lending {
 /// Another length; new elements are all plain or all as made.
 fn stretch<T>(rng: &mut Rng, list: &mut Vec<T>, most: u64, plain: fn(&mut Rng, usize) -> T, make: fn(&mut Rng) -> T) {
     let length = if rng.once_in(3) { list.len() as u64 + rng.below(4) } else { rng.below(most) } as usize;
-    let sound = rng.once_in(2);
+    let valid = rng.once_in(2);
     list.truncate(length);
     for at in list.len()..length {
-        list.push(if sound { plain(rng, at) } else { make(rng) });
+        list.push(if valid { plain(rng, at) } else { make(rng) });
     }
 }
 
@@ -250,18 +250,18 @@ fn any_state(rng: &mut Rng, last: &State) -> State {
 
 /// A candidate: the last one that came back, that with one field changed, a small one, or any bits.
 pub fn candidate(rng: &mut Rng, last: &Candidate) -> Candidate {
-    let mut told = *last;
+    let mut reply = *last;
     let word = whole(rng) as u32;
     match rng.below(9) {
         0..=2 => {}
-        3 => told = Candidate { place: [0, 1, 2, 3], star: [0, 1, 2, rng.below(5) as u32], rebuild: word, ..Candidate::default() },
-        4 => told.pass = word,
-        5 => told.place[rng.below(4) as usize] = word,
-        6 => told.star[rng.below(4) as usize] = word,
-        7 => (told.rebuild, told.reserved) = (word, word),
+        3 => reply = Candidate { place: [0, 1, 2, 3], star: [0, 1, 2, rng.below(5) as u32], rebuild: word, ..Candidate::default() },
+        4 => reply.pass = word,
+        5 => reply.place[rng.below(4) as usize] = word,
+        6 => reply.star[rng.below(4) as usize] = word,
+        7 => (reply.rebuild, reply.reserved) = (word, word),
         _ => {
             let mut any = || whole(rng) as u32;
-            told = Candidate {
+            reply = Candidate {
                 slot: 9,
                 pass: any() % 3,
                 place: [any(), any(), any(), any()],
@@ -272,5 +272,5 @@ pub fn candidate(rng: &mut Rng, last: &Candidate) -> Candidate {
             };
         }
     }
-    told
+    reply
 }

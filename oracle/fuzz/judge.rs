@@ -1,6 +1,6 @@
 //! What the model answers to the same lending, as the C interface has it.
 
-use model::complete::{complete, Told};
+use model::complete::{complete, GivenCandidate};
 use model::frame::{questions_1_to_3, Frame};
 use model::search::{call, questions, Answer, Lent, Phase, Position, State as ModelState, Status, FRESH};
 use model::sweep::sweep;
@@ -86,16 +86,16 @@ impl Judge {
             return refused(if before != 0 { before } else { 8 });
         };
         let (answer, after) = call(&self.lent, given, allowance);
-        let told = raw::Answer { state: laid(&after), ..raw::Answer::default() };
+        let reply = raw::Answer { state: laid(&after), ..raw::Answer::default() };
         match answer {
             Answer::Refused(number) => refused(number),
-            Answer::Used if allowance == 0 => raw::Answer { answer: 1, state: *state, ..told },
-            Answer::Used => raw::Answer { answer: 1, ..told },
-            Answer::Ended(status) => raw::Answer { answer: 2, number: status as u32, ..told },
+            Answer::Used if allowance == 0 => raw::Answer { answer: 1, state: *state, ..reply },
+            Answer::Used => raw::Answer { answer: 1, ..reply },
+            Answer::Ended(status) => raw::Answer { answer: 2, number: status as u32, ..reply },
             Answer::Candidate(found) => {
                 let (slot, pass, place, star) = (found.slot, found.pass, found.places, found.stars);
                 let (field, rebuild) = (found.field, u32::from(found.mark));
-                raw::Answer { candidate: raw::Candidate { slot, pass, place, star, field, rebuild, reserved: 0 }, ..told }
+                raw::Answer { candidate: raw::Candidate { slot, pass, place, star, field, rebuild, reserved: 0 }, ..reply }
             }
         }
     }
@@ -112,8 +112,8 @@ impl Judge {
     /// The answer of completing.
     pub fn complete(&self, candidate: &raw::Candidate, scale: f32) -> raw::Completed {
         let raw::Candidate { pass, place, star, field, rebuild, .. } = *candidate;
-        let told = Told { pass, places: place, stars: star, field, mark: rebuild != 0, scale };
-        match complete(&self.lent.frame, &self.lent.table, &told) {
+        let reply = GivenCandidate { pass, places: place, stars: star, field, mark: rebuild != 0, scale };
+        match complete(&self.lent.frame, &self.lent.table, &reply) {
             Ok([a, b, c, d, e, f, g, h]) => raw::Completed { answer: 0, number: 0, image: [a, b, c, d], star: [e, f, g, h] },
             Err(number) => raw::Completed { answer: 1, number, ..raw::Completed::default() },
         }

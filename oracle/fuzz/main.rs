@@ -30,7 +30,7 @@ use star_search::Pass;
 use rng::Rng;
 use round::{Arenas, Round};
 
-/// The sound lendings that hostile ones are made from: four of each kind, and a frame of 256 spots.
+/// The valid lendings that hostile ones are made from: four of each kind, and a frame of 256 spots.
 fn bases() -> Vec<hostile::Lending> {
     let mut list: Vec<_> = (0..52).map(|seed| hostile::Lending::of(&given::case(seed).lent)).collect();
     let large = oracle::Case::new("large", given::large(&mut Rng::new(31)));
@@ -38,7 +38,7 @@ fn bases() -> Vec<hostile::Lending> {
     list
 }
 
-/// One lending: sound or spoilt in up to three ways, now and then of the largest sizes.
+/// One lending: valid or spoilt in up to three ways, now and then of the largest sizes.
 fn lending(rng: &mut Rng, bases: &[hostile::Lending]) -> hostile::Lending {
     let mut lending = bases[rng.below(bases.len() as u64) as usize].clone();
     if rng.once_in(3_000) {

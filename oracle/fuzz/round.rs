@@ -71,7 +71,7 @@ impl fmt::Display for Tally {
     }
 }
 
-/// The last slot with an occupancy bit, whose entry ends the section of a sound table.
+/// The last slot with an occupancy bit, whose entry ends the section of a valid table.
 fn last_filled(words: &[u64]) -> u64 {
     let bits = words.iter().enumerate().filter(|(at, word)| at % 8 != 0 && **word != 0);
     bits.last().map_or(0, |(at, word)| at as u64 / 8 * 448 + (at as u64 % 8 - 1) * 64 + u64::from(word.ilog2()))
@@ -140,24 +140,24 @@ impl Round<'_> {
         for _ in 0..self.rng.between(6, 18) {
             let state = hostile::state(&mut self.rng, &last);
             let allowance = self.rng.pick(&[0, 1, 2, 7, 60, 60, 400, 3_000]);
-            let told = raw::search(frame, self.lending.settings, table, state, allowance);
-            self.answer(&told, &state, allowance, frame, table);
+            let reply = raw::search(frame, self.lending.settings, table, state, allowance);
+            self.answer(&reply, &state, allowance, frame, table);
             if let Some(judge) = judge {
                 self.tally.judged += 1;
                 let wanted = judge.search(&state, allowance);
-                self.check(told == wanted, || format!("state {state:?}, allowance {allowance}: {told:?}, model {wanted:?}"));
+                self.check(reply == wanted, || format!("state {state:?}, allowance {allowance}: {reply:?}, model {wanted:?}"));
             }
-            if told.answer == 0 {
-                found = told.candidate;
+            if reply.answer == 0 {
+                found = reply.candidate;
             }
-            last = told.state;
+            last = reply.state;
         }
         found
     }
 
     /// What every answer of a search call keeps to.
-    fn answer(&mut self, told: &Answer, state: &State, allowance: u64, frame: raw::Frame, table: raw::Table) {
-        let Answer { answer, number, candidate, state: after } = *told;
+    fn answer(&mut self, reply: &Answer, state: &State, allowance: u64, frame: raw::Frame, table: raw::Table) {
+        let Answer { answer, number, candidate, state: after } = *reply;
         self.tally.search[answer.min(3) as usize] += 1;
         let reads = after.reads.wrapping_sub(state.reads);
         let plain = candidate == Candidate::default();
@@ -173,7 +173,7 @@ impl Round<'_> {
             }
             _ => false,
         };
-        self.check(good, || format!("state {state:?}, allowance {allowance}: {told:?}"));
+        self.check(good, || format!("state {state:?}, allowance {allowance}: {reply:?}"));
     }
 
     /// Does a candidate name what was lent?
@@ -215,20 +215,20 @@ impl Round<'_> {
     fn complete(&mut self, frame: raw::Frame, table: raw::Table, found: &Candidate, judge: Option<&Judge>) {
         let candidate = hostile::candidate(&mut self.rng, found);
         let scale = if self.rng.once_in(2) { 0.001 } else { hostile::float(&mut self.rng) };
-        let told = raw::complete(frame, table.stars, candidate, scale);
-        self.tally.complete[told.answer.min(1) as usize] += 1;
-        let nothing = Completed { answer: 1, number: told.number, ..Completed::default() };
-        let good = match told.answer {
-            0 => told.number == 0 && told.image.as_flattened().iter().all(|part| part.abs() <= 1.000_001),
-            _ => [1, 2, 3, 5, 7, 9, 14].contains(&told.number) && told == nothing,
+        let reply = raw::complete(frame, table.stars, candidate, scale);
+        self.tally.complete[reply.answer.min(1) as usize] += 1;
+        let nothing = Completed { answer: 1, number: reply.number, ..Completed::default() };
+        let good = match reply.answer {
+            0 => reply.number == 0 && reply.image.as_flattened().iter().all(|part| part.abs() <= 1.000_001),
+            _ => [1, 2, 3, 5, 7, 9, 14].contains(&reply.number) && reply == nothing,
         };
-        self.check(good, || format!("completing {candidate:?} {scale}: {told:?}"));
+        self.check(good, || format!("completing {candidate:?} {scale}: {reply:?}"));
         if let Some(judge) = judge {
             self.tally.judged += 1;
             let wanted = judge.complete(&candidate, scale);
-            let bits = |told: &Completed| [told.image, told.star].map(|four| four.map(|v| v.map(f32::to_bits)));
-            let same = (told.answer, told.number, bits(&told)) == (wanted.answer, wanted.number, bits(&wanted));
-            self.check(same, || format!("completing {candidate:?} {scale}: {told:?}, model {wanted:?}"));
+            let bits = |reply: &Completed| [reply.image, reply.star].map(|four| four.map(|v| v.map(f32::to_bits)));
+            let same = (reply.answer, reply.number, bits(&reply)) == (wanted.answer, wanted.number, bits(&wanted));
+            self.check(same, || format!("completing {candidate:?} {scale}: {reply:?}, model {wanted:?}"));
         }
     }
 
@@ -243,16 +243,16 @@ impl Round<'_> {
         let before = vec![9.0; if self.rng.once_in(3) { room % 9 } else { room }];
         self.tally.lengths[6].insert(before.len());
         let out = fields.lend_to_write(&before, high);
-        let told = raw::sweep(estimate, given, error, step, out);
-        self.tally.sweep[told.answer.min(1) as usize] += 1;
+        let reply = raw::sweep(estimate, given, error, step, out);
+        self.tally.sweep[reply.answer.min(1) as usize] += 1;
         self.tally.judged += 1;
         let wanted = swept(estimate, given, error, step, before.len());
         let (ours, values) = match &wanted {
             Ok(values) => (raw::Swept { answer: 0, number: 0, count: values.len() as u64 }, values.as_slice()),
             Err(number) => (raw::Swept { answer: 1, number: *number, count: 0 }, [].as_slice()),
         };
-        let good = told == ours && out.starts_with(values) && out[values.len()..].iter().all(|value| *value == 9.0);
-        let text = || format!("sweep {estimate} {given} {error} {step} into {}: {told:?} {out:?}, model {wanted:?}", before.len());
+        let good = reply == ours && out.starts_with(values) && out[values.len()..].iter().all(|value| *value == 9.0);
+        let text = || format!("sweep {estimate} {given} {error} {step} into {}: {reply:?} {out:?}, model {wanted:?}", before.len());
         let text = (!good).then(text);
         self.check(good, || text.unwrap_or_default());
     }

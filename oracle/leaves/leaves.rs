@@ -1,6 +1,6 @@
 // The proved leaves, and what each is measured against.
 
-/// The exports of crates/leaves_c and crates/slices_c.
+/// The exports of crates/bench_exports.
 pub mod proved {
     extern "C" {
         pub fn sqrt_f32(x: f32) -> f32;

@@ -1,4 +1,4 @@
-// Measures the proved leaves, linked as the archives of `leaves_c` and `slices_c`, against the platform's own. What it prints is Markdown.
+// Measures the proved leaves, linked as the archive of `bench_exports`, against the platform's own. What it prints is Markdown.
 mod arcsine;
 mod leaves;
 mod plot;

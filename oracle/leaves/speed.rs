@@ -68,8 +68,8 @@ fn chained(f: Leaf, inputs: &[f32], out: &mut [f32]) -> f64 {
     let mut last = 0.0f32;
     let start = Instant::now();
     for x in inputs {
-        let nought = if last < 0.0 { last } else { 0.0 };
-        last = unsafe { f(*x + nought) };
+        let zero = if last < 0.0 { last } else { 0.0 };
+        last = unsafe { f(*x + zero) };
     }
     let spent = start.elapsed().as_nanos() as f64 / inputs.len() as f64;
     out[0] = last;

@@ -4,9 +4,9 @@ use crate::frame::{self, Frame};
 use crate::pattern::Direction;
 use crate::table::{self, Table};
 
-/// What completing is told of a candidate, and the scale for its measured field.
+/// What completing is given of a candidate, and the scale for its measured field.
 #[derive(Clone, Copy, PartialEq, Debug)]
-pub struct Told {
+pub struct GivenCandidate {
     pub pass: u32,
     pub places: [u32; 4],
     pub stars: [u32; 4],
@@ -31,25 +31,25 @@ pub fn order(four: [Direction; 4]) -> [usize; 4] {
 }
 
 /// The four image vectors in matched order and the four star vectors, or the refusal's number.
-pub fn complete(frame: &Frame, table: &Table, told: &Told) -> Result<[Direction; 8], u32> {
-    let refusal = questions(frame, table, told);
+pub fn complete(frame: &Frame, table: &Table, given: &GivenCandidate) -> Result<[Direction; 8], u32> {
+    let refusal = questions(frame, table, given);
     if refusal != 0 {
         return Err(refusal);
     }
-    let scale = if told.mark { told.scale } else { frame::pass(frame, told.pass as usize).scale };
-    let image = told.places.map(|place| frame::spot(frame, place, scale));
+    let scale = if given.mark { given.scale } else { frame::pass(frame, given.pass as usize).scale };
+    let image = given.places.map(|place| frame::spot(frame, place, scale));
     let mut out = [[0.0; 3]; 8];
     for (at, from) in order(image).into_iter().enumerate() {
         out[at] = image[from];
     }
-    for (at, star) in told.stars.into_iter().enumerate() {
+    for (at, star) in given.stars.into_iter().enumerate() {
         out[4 + at] = table::star(table, star);
     }
     Ok(out)
 }
 
 /// The first no of 1, 2, 3, 5, 7, 14 and 9, or 0.
-fn questions(frame: &Frame, table: &Table, told: &Told) -> u32 {
+fn questions(frame: &Frame, table: &Table, given: &GivenCandidate) -> u32 {
     let first = frame::questions_1_to_3(frame);
     if first != 0 {
         first
@@ -57,9 +57,9 @@ fn questions(frame: &Frame, table: &Table, told: &Told) -> u32 {
         5
     } else if !table::question_7(table) {
         7
-    } else if !question_14(frame, told) {
+    } else if !question_14(frame, given) {
         14
-    } else if !told.stars.iter().all(|star| table::star_sound(table, *star)) {
+    } else if !given.stars.iter().all(|star| table::star_valid(table, *star)) {
         9
     } else {
         0
@@ -67,9 +67,9 @@ fn questions(frame: &Frame, table: &Table, told: &Told) -> u32 {
 }
 
 /// Question 14: the pass exists, the places rise below the list's length, the scale is above 0 and at most 16.
-fn question_14(frame: &Frame, told: &Told) -> bool {
-    let [a, b, c, d] = told.places;
-    let pass = (told.pass as usize) < frame.triples.len() / 3;
+fn question_14(frame: &Frame, given: &GivenCandidate) -> bool {
+    let [a, b, c, d] = given.places;
+    let pass = (given.pass as usize) < frame.triples.len() / 3;
     let places = a < b && b < c && c < d && (d as usize) < frame.places.len();
-    pass && places && told.scale > 0.0 && told.scale <= 16.0
+    pass && places && given.scale > 0.0 && given.scale <= 16.0
 }

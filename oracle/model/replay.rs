@@ -1,6 +1,6 @@
 //! The replay stream: writing records, and answering them with the model.
 
-use crate::complete::{complete, Told};
+use crate::complete::{complete, GivenCandidate};
 use crate::frame::{Frame, Settings};
 use crate::search::{call, Answer, Lent, Phase, Position, State, Status, FRESH};
 use crate::sweep::sweep;
@@ -19,7 +19,7 @@ pub enum Record {
     Open,
     Slot(u64),
     Sweep { estimate: f32, error: Option<f32>, step: f32, room: u32 },
-    Complete(Told),
+    Complete(GivenCandidate),
 }
 
 /// A payload in the making.
@@ -106,13 +106,13 @@ fn state_payload(out: &mut Payload, state: &State) {
 }
 
 /// The payload of a completing.
-fn complete_payload(out: &mut Payload, told: &Told) {
-    out.word(told.pass);
-    told.places.iter().for_each(|place| out.word(*place));
-    told.stars.iter().for_each(|star| out.word(*star));
-    out.float(told.field);
-    out.word(u32::from(told.mark));
-    out.float(told.scale);
+fn complete_payload(out: &mut Payload, given: &GivenCandidate) {
+    out.word(given.pass);
+    given.places.iter().for_each(|place| out.word(*place));
+    given.stars.iter().for_each(|star| out.word(*star));
+    out.float(given.field);
+    out.word(u32::from(given.mark));
+    out.float(given.scale);
 }
 
 /// Adds one record to a stream.
@@ -135,7 +135,7 @@ pub fn write(stream: &mut Vec<u8>, record: &Record) {
             out.word(*room);
             10
         }
-        Record::Complete(told) => (complete_payload(&mut out, told), 11).1,
+        Record::Complete(given) => (complete_payload(&mut out, given), 11).1,
     };
     stream.extend(u32::to_le_bytes(kind));
     stream.extend((out.0.len() as u32).to_le_bytes());
@@ -195,7 +195,7 @@ fn read(kind: u32, payload: &[u8]) -> Option<Record> {
         8 => Record::Open,
         9 => Record::Slot(from.long()?),
         10 => Record::Sweep { estimate: from.float()?, error: from.option()?, step: from.float()?, room: from.word()? },
-        11 => Record::Complete(Told {
+        11 => Record::Complete(GivenCandidate {
             pass: from.word()?,
             places: from.four()?,
             stars: from.four()?,
@@ -251,19 +251,19 @@ fn read_state(from: &mut Words) -> Option<State> {
 }
 
 /// What the records so far have set.
-pub struct Desk {
+pub struct Inputs {
     pub lent: Lent,
     pub state: State,
 }
 
-impl Default for Desk {
+impl Default for Inputs {
     /// Nothing lent, the state fresh.
     fn default() -> Self {
-        Desk { lent: Lent::default(), state: FRESH }
+        Inputs { lent: Lent::default(), state: FRESH }
     }
 }
 
-impl Desk {
+impl Inputs {
     /// Takes one record and adds the lines it writes.
     pub fn take(&mut self, record: &Record, lines: &mut String) {
         match record {
@@ -279,7 +279,7 @@ impl Desk {
             Record::Open => *lines += &open_line(open(&self.lent.table)),
             Record::Slot(slot) => *lines += &slot_line(slot_read(&self.lent.table, *slot)),
             Record::Sweep { estimate, error, step, room } => *lines += &sweep_line(sweep(*estimate, *error, *step, *room as usize)),
-            Record::Complete(told) => *lines += &complete_line(complete(&self.lent.frame, &self.lent.table, told)),
+            Record::Complete(given) => *lines += &complete_line(complete(&self.lent.frame, &self.lent.table, given)),
         }
     }
 

@@ -1,17 +1,17 @@
 //! Answers a replay stream with the model. With a second file, compares line by line and stops at the first difference.
 
-use model::replay::{split, Desk};
+use model::replay::{split, Inputs};
 
 /// The stream's lines, handed on record by record; stops when `keep` says so.
 fn replay(stream: &[u8], mut keep: impl FnMut(&str) -> bool) {
-    let mut desk = Desk::default();
+    let mut inputs = Inputs::default();
     let mut rest = stream;
     let mut number = 0;
     while !rest.is_empty() {
         let mut lines = String::new();
         match split(rest) {
             Some((record, after)) => {
-                desk.take(&record, &mut lines);
+                inputs.take(&record, &mut lines);
                 rest = after;
             }
             None => {

@@ -114,7 +114,7 @@ pub fn probed(lent: &Lent, key: Key, probe: u32) -> u64 {
     (home + u64::from(probe) * u64::from(probe)) % slots
 }
 
-/// The candidate that a filled slot with a sound entry gives, if it gives one.
+/// The candidate that a filled slot with a valid entry gives, if it gives one.
 pub fn tested(lent: &Lent, kept: &Kept, combination: &Combination, key: Key, slot: u64, entry: Entry) -> Option<Candidate> {
     if entry.mark != pattern::mark(pattern::hash(key, lent.settings.bins)) {
         return None;
@@ -249,14 +249,14 @@ pub fn call(lent: &Lent, received: State, allowance: u64) -> (Answer, State) {
     if allowance == 0 {
         return (Answer::Used, received);
     }
-    match walk(lent, state, allowance) {
+    match read_on(lent, state, allowance) {
         Some(done) => done,
         None => (Answer::Refused(9), received),
     }
 }
 
 /// Reads from a state at its next read until the call stops; none where question 9 refuses.
-fn walk(lent: &Lent, start: State, allowance: u64) -> Option<(Answer, State)> {
+fn read_on(lent: &Lent, start: State, allowance: u64) -> Option<(Answer, State)> {
     let mut state = start;
     let mut taken = 0;
     let mut work: Option<(Kept, Combination)> = None;
@@ -273,7 +273,7 @@ fn walk(lent: &Lent, start: State, allowance: u64) -> Option<(Answer, State)> {
         let key = combination.keys[at.key as usize];
         let slot = probed(lent, key, at.probe);
         let held = table::read(&lent.table, slot);
-        if !table::sound(&lent.table, &held) {
+        if !table::valid(&lent.table, &held) {
             return None;
         }
         taken += 1;

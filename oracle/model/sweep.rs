@@ -4,8 +4,8 @@ use crate::float::{pi, smaller};
 
 /// The values of a sweep that fit the lent room, or the refusal's number.
 pub fn sweep(estimate: f32, error: Option<f32>, step: f32, room: usize) -> Result<Vec<f32>, u32> {
-    let sound = estimate > 0.0 && estimate < pi() && step.is_finite() && step > 0.0 && error.is_none_or(f32::is_finite);
-    if !sound {
+    let valid = estimate > 0.0 && estimate < pi() && step.is_finite() && step > 0.0 && error.is_none_or(f32::is_finite);
+    if !valid {
         return Err(12);
     }
     let mut values = vec![estimate];

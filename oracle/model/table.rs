@@ -71,7 +71,7 @@ pub fn question_7(table: &Table) -> bool {
 }
 
 /// Question 9 for one star: inside the slice, each component finite and of magnitude at most 1.
-pub fn star_sound(table: &Table, star: u32) -> bool {
+pub fn star_valid(table: &Table, star: u32) -> bool {
     let start = star as usize * 3;
     if start + 3 > table.stars.len() {
         return false;
@@ -79,7 +79,7 @@ pub fn star_sound(table: &Table, star: u32) -> bool {
     table.stars[start..start + 3].iter().all(|part| part.is_finite() && part.abs() <= 1.0)
 }
 
-/// The vector of a sound star.
+/// The vector of a valid star.
 pub fn star(table: &Table, star: u32) -> [f32; 3] {
     let start = star as usize * 3;
     [table.stars[start], table.stars[start + 1], table.stars[start + 2]]
@@ -105,12 +105,12 @@ pub fn question_10(table: &Table) -> bool {
     table.packed.len() as u64 == 22 * before
 }
 
-/// Question 9 over one filled slot: the entry inside the section and its stars sound.
-pub fn sound(table: &Table, slot: &Slot) -> bool {
+/// Question 9 over one filled slot: the entry inside the section and its stars valid.
+pub fn valid(table: &Table, slot: &Slot) -> bool {
     match slot {
         Slot::Empty => true,
         Slot::Outside => false,
-        Slot::Filled(bytes) => entry(*bytes).stars.iter().all(|index| star_sound(table, *index)),
+        Slot::Filled(bytes) => entry(*bytes).stars.iter().all(|index| star_valid(table, *index)),
     }
 }
 
@@ -125,7 +125,7 @@ pub fn open(table: &Table) -> u32 {
     if !question_10(table) {
         return 10;
     }
-    let all = (0..table.slots).all(|slot| sound(table, &read(table, slot)));
+    let all = (0..table.slots).all(|slot| valid(table, &read(table, slot)));
     if all {
         0
     } else {

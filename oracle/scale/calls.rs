@@ -59,10 +59,10 @@ impl<'a> Machine<'a> {
     }
 
     /// How an answer and a state of the port differ from this machine's.
-    fn differs(&self, wanted: Answer, told: Answer, state: &State) -> Option<String> {
+    fn differs(&self, wanted: Answer, reply: Answer, state: &State) -> Option<String> {
         let counts = (self.taken.patterns(self.n), self.n);
-        let same = wanted == told && counts == (state.patterns(), state.reads());
-        (!same).then(|| format!("oracle {wanted:?} {counts:?}, port {told:?} {state:?}"))
+        let same = wanted == reply && counts == (state.patterns(), state.reads());
+        (!same).then(|| format!("oracle {wanted:?} {counts:?}, port {reply:?} {state:?}"))
     }
 }
 
@@ -72,22 +72,22 @@ pub fn whole_differs(case: &Case, taken: &Taken, tally: &mut Tally) -> Option<St
     let (table, frame, settings) = (lending.table(), lending.frame(), lending.settings());
     let (mut machine, mut state) = (Machine::new(taken), State::fresh());
     loop {
-        let told = said(table.search(&frame, &settings, &mut state, u64::MAX));
+        let reply = said(table.search(&frame, &settings, &mut state, u64::MAX));
         let wanted = machine.call(u64::MAX);
         tally.calls += 1;
-        tally.candidates += u64::from(matches!(told, Answer::Candidate(_)));
-        if let Some(text) = machine.differs(wanted, told, &state) {
+        tally.candidates += u64::from(matches!(reply, Answer::Candidate(_)));
+        if let Some(text) = machine.differs(wanted, reply, &state) {
             return Some(text);
         }
-        if let Answer::Ended(_) = told {
+        if let Answer::Ended(_) = reply {
             break;
         }
     }
     tally.reads += state.reads();
     let last = state.clone();
     for more in [0, 1] {
-        let told = said(table.search(&frame, &settings, &mut state, more));
-        let text = machine.differs(Answer::Ended(taken.status), told, &state);
+        let reply = said(table.search(&frame, &settings, &mut state, more));
+        let text = machine.differs(Answer::Ended(taken.status), reply, &state);
         if text.is_some() || state != last {
             return Some(format!("after the end: {text:?} {state:?}"));
         }
@@ -112,21 +112,21 @@ pub fn divided_differs(case: &Case, taken: &Taken, seed: u64, tally: &mut Tally)
         }
         if rng.once_in(6) && case.lent.table.slots < 10_000 {
             tally.refused += 1;
-            let text = unsound_differs(&case.lent, beside, allowance);
+            let text = invalid_differs(&case.lent, beside, allowance);
             if text.is_some() {
                 return text;
             }
         }
-        let told = said(table.search(&frame, &settings, &mut here, allowance));
+        let reply = said(table.search(&frame, &settings, &mut here, allowance));
         let wanted = machine.call(allowance);
         let (answer, after) = search::call(&case.lent, beside, allowance);
         beside = after;
         (tally.calls, tally.states) = (tally.calls + 1, tally.states + 1);
-        let text = machine.differs(wanted, told, &here);
-        if text.is_some() || answer != told || state(&beside) != here {
-            return Some(format!("allowance {allowance}: {text:?}, model {answer:?} {beside:?}, port {told:?} {here:?}"));
+        let text = machine.differs(wanted, reply, &here);
+        if text.is_some() || answer != reply || state(&beside) != here {
+            return Some(format!("allowance {allowance}: {text:?}, model {answer:?} {beside:?}, port {reply:?} {here:?}"));
         }
-        if let Answer::Ended(_) = told {
+        if let Answer::Ended(_) = reply {
             break;
         }
     }
@@ -148,21 +148,21 @@ fn refused_differs(table: &Table, frame: &Frame, settings: &Settings, state: &St
         _ => bytes[40..48].fill(0xFF),
     }
     let mut given = State::from_bytes(&bytes);
-    let told = table.search(&frame, &settings, &mut given, allowance);
-    let same = told.map_err(Refusal::number) == Err(number as u32) && given.to_bytes() == bytes;
-    (!same).then(|| format!("refused by {number}: {told:?} {given:?}"))
+    let reply = table.search(&frame, &settings, &mut given, allowance);
+    let same = reply.map_err(Refusal::number) == Err(number as u32) && given.to_bytes() == bytes;
+    (!same).then(|| format!("refused by {number}: {reply:?} {given:?}"))
 }
 
 /// A call on the table without its stars, which question 9 refuses at the first filled slot; the model says whether there is one.
-fn unsound_differs(lent: &Lent, from: search::State, allowance: u64) -> Option<String> {
+fn invalid_differs(lent: &Lent, from: search::State, allowance: u64) -> Option<String> {
     let mut bare = lent.clone();
     bare.table.stars.clear();
     let lending = Lending::new(&bare);
     let mut here = state(&from);
-    let told = said(lending.table().search(&lending.frame(), &lending.settings(), &mut here, allowance));
+    let reply = said(lending.table().search(&lending.frame(), &lending.settings(), &mut here, allowance));
     let (answer, after) = search::call(&bare, from, allowance);
-    let same = told == answer && here == state(&after);
-    (!same).then(|| format!("without stars: model {answer:?} {after:?}, port {told:?} {here:?}"))
+    let same = reply == answer && here == state(&after);
+    (!same).then(|| format!("without stars: model {answer:?} {after:?}, port {reply:?} {here:?}"))
 }
 
 /// The binding's lists of candidates, a share of the reads each, joined.
@@ -174,12 +174,12 @@ pub fn listed_differs(case: &Case, taken: &Taken, seed: u64, tally: &mut Tally) 
     let mut here = State::fresh();
     loop {
         let mut list = table.candidates(&frame, &settings, &mut here, share);
-        for told in &mut list {
+        for reply in &mut list {
             tally.calls += 1;
             let wanted = found.next().map(oracle::candidate);
-            let told = told.map(candidate);
-            if told.ok() != wanted || wanted.is_none() {
-                return Some(format!("lists of {share} reads: oracle {wanted:?}, port {told:?}"));
+            let reply = reply.map(candidate);
+            if reply.ok() != wanted || wanted.is_none() {
+                return Some(format!("lists of {share} reads: oracle {wanted:?}, port {reply:?}"));
             }
         }
         let (status, left) = (list.ended().map(ended), list.left());

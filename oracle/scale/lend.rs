@@ -55,8 +55,8 @@ pub fn candidate(found: Candidate) -> search::Candidate {
 }
 
 /// The port's answer as the model has it.
-pub fn said(told: Result<Answer, Refusal>) -> search::Answer {
-    match told {
+pub fn said(reply: Result<Answer, Refusal>) -> search::Answer {
+    match reply {
         Ok(Answer::Candidate(found)) => search::Answer::Candidate(candidate(found)),
         Ok(Answer::Used) => search::Answer::Used,
         Ok(Answer::Ended(status)) => search::Answer::Ended(ended(status)),

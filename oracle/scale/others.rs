@@ -13,9 +13,9 @@ pub fn refusal_differs(case: &Case, search: u32, table: u32) -> Option<String> {
     let lending = Lending::new(&case.lent);
     let opened = lending.table().open().map_or_else(Refusal::number, |_| 0);
     let mut state = State::fresh();
-    let told = lending.table().search(&lending.frame(), &lending.settings(), &mut state, 0);
-    let number = told.map_or_else(Refusal::number, |_| 0);
-    ((opened, number) != (table, search)).then(|| format!("refused {table} and {search}, port {opened} and {:?}", said(told)))
+    let reply = lending.table().search(&lending.frame(), &lending.settings(), &mut state, 0);
+    let number = reply.map_or_else(Refusal::number, |_| 0);
+    ((opened, number) != (table, search)).then(|| format!("refused {table} and {search}, port {opened} and {:?}", said(reply)))
 }
 
 /// The bits of four directions.
@@ -28,7 +28,7 @@ pub fn completing_differs(case: &Case, taken: &Taken) -> Option<String> {
     let lending = Lending::new(&case.lent);
     let (table, frame) = (lending.table(), lending.frame());
     for found in &taken.record.candidates {
-        let told = Candidate {
+        let reply = Candidate {
             slot: found.slot as u64,
             pass: found.pass as u32,
             places: found.places.map(|place| place as u32),
@@ -36,7 +36,7 @@ pub fn completing_differs(case: &Case, taken: &Taken) -> Option<String> {
             field: found.field,
             rebuild: found.mark,
         };
-        let ours = table.complete(&frame, &told, found.scale);
+        let ours = table.complete(&frame, &reply, found.scale);
         let same = match ours {
             Ok(Completed { image, stars }) => bits(image) == bits(found.image) && bits(stars) == bits(found.catalogue),
             Err(refusal) => refusal == Refusal::Candidate && !(found.scale > 0.0 && found.scale <= 16.0),
@@ -73,7 +73,7 @@ pub fn slots_differ(case: &Case) -> Option<String> {
         let ours = match table.slot(slot as u64) {
             Ok(Slot::Filled) => part.try_into().ok().map(entry).map(|held| (held.stars, held.edge.to_bits(), held.mark)),
             Ok(Slot::Empty) if part.is_empty() => None,
-            told => return Some(format!("slot {slot}: oracle {theirs:?}, port {told:?} {part:?}")),
+            reply => return Some(format!("slot {slot}: oracle {theirs:?}, port {reply:?} {part:?}")),
         };
         if ours != theirs {
             return Some(format!("slot {slot}: oracle {theirs:?}, port {ours:?}"));

@@ -16,8 +16,8 @@ pub fn now() -> f64 {
     const PROCESS: i32 = 2;
     let mut time = Time { seconds: 0, nanoseconds: 0 };
     // SAFETY: the time is lent to write, and the clock exists.
-    let told = unsafe { clock_gettime(PROCESS, &mut time) };
-    assert!(told == 0, "the process has a clock");
+    let reply = unsafe { clock_gettime(PROCESS, &mut time) };
+    assert!(reply == 0, "the process has a clock");
     time.seconds as f64 + time.nanoseconds as f64 * 1e-9
 }
 

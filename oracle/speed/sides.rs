@@ -84,11 +84,11 @@ impl Work {
         let (table, frame, settings) = self.lent();
         let (mut state, mut counts) = (State::fresh(), Counts::default());
         loop {
-            let told = table.search(&frame, &settings, &mut state, allowance).expect("a sound lending");
+            let reply = table.search(&frame, &settings, &mut state, allowance).expect("a valid lending");
             counts.calls += 1;
-            let found = matches!(told, Answer::Candidate(_));
+            let found = matches!(reply, Answer::Candidate(_));
             counts.candidates += u64::from(found);
-            if found && first || matches!(told, Answer::Ended(_)) {
+            if found && first || matches!(reply, Answer::Ended(_)) {
                 return Counts { combinations: state.patterns(), reads: state.reads(), ..counts };
             }
         }
@@ -114,7 +114,7 @@ impl Work {
     /// Stops unless the oracle's own record of the frame, under a cap, has the counts that the port has: both sides do the same work.
     pub fn check(&self, given: &Given, cap: Option<u64>) {
         let (table, frame, settings) = self.lent();
-        table.open().expect("a sound table");
+        table.open().expect("a valid table");
         let (settings, mut state) = (Settings { cap, ..settings }, State::fresh());
         let found = table.candidates(&frame, &settings, &mut state, u64::MAX).count();
         let (record, _) = record::run(&Given { cap, ..given.clone() });

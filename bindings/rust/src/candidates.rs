@@ -49,10 +49,10 @@ impl Iterator for Candidates<'_> {
             return None;
         }
         let before = self.state.reads();
-        let told = self.table.search(self.frame, self.settings, self.state, self.left);
+        let reply = self.table.search(self.frame, self.settings, self.state, self.left);
         self.left -= self.state.reads() - before;
-        self.over = !matches!(told, Ok(Answer::Candidate(_)));
-        match told {
+        self.over = !matches!(reply, Ok(Answer::Candidate(_)));
+        match reply {
             Ok(Answer::Candidate(candidate)) => Some(Ok(candidate)),
             Ok(Answer::Used) => None,
             Ok(Answer::Ended(status)) => {

@@ -192,13 +192,13 @@ impl<'a> Table<'a> {
     /// A refused call leaves the state as it was, and so does a call with allowance 0 unless it is ended. A table that was never
     /// opened may be searched too; then question 9 is asked at each filled slot that is read.
     pub fn search(&self, frame: &Frame, settings: &Settings, state: &mut State, allowance: u64) -> Result<Answer, Refusal> {
-        let told = raw::search(frame.lent(), settings.lent(), self.lent(), state.0, allowance);
-        state.0 = told.state;
-        match told.answer {
-            0 => Ok(Answer::Candidate(Candidate::of(&told.candidate))),
+        let reply = raw::search(frame.lent(), settings.lent(), self.lent(), state.0, allowance);
+        state.0 = reply.state;
+        match reply.answer {
+            0 => Ok(Answer::Candidate(Candidate::of(&reply.candidate))),
             1 => Ok(Answer::Used),
-            2 => Ok(Answer::Ended(Status::of(told.number))),
-            _ => Err(Refusal::of(told.number)),
+            2 => Ok(Answer::Ended(Status::of(reply.number))),
+            _ => Err(Refusal::of(reply.number)),
         }
     }
 
@@ -209,11 +209,11 @@ impl<'a> Table<'a> {
 
     /// What a slot of the table holds. Questions 6, 11, then 9 for the section only.
     pub fn slot(&self, slot: u64) -> Result<Slot, Refusal> {
-        let told = raw::slot(self.lent(), slot);
-        match told.answer {
+        let reply = raw::slot(self.lent(), slot);
+        match reply.answer {
             0 => Ok(Slot::Filled),
             1 => Ok(Slot::Empty),
-            _ => Err(Refusal::of(told.number)),
+            _ => Err(Refusal::of(reply.number)),
         }
     }
 
@@ -226,10 +226,10 @@ impl<'a> Table<'a> {
     /// Completes a candidate. `scale` is the pixel scale for the candidate's measured field: it is used only where `rebuild` is set, and
     /// question 14 asks it always (lend the pass's own scale where it isn't set). Slot and field of the candidate are not looked at.
     pub fn complete(&self, frame: &Frame, candidate: &Candidate, scale: f32) -> Result<Completed, Refusal> {
-        let told = raw::complete(frame.lent(), self.stars.as_flattened(), candidate.lent(), scale);
-        match told.answer {
-            0 => Ok(Completed { image: told.image, stars: told.star }),
-            _ => Err(Refusal::of(told.number)),
+        let reply = raw::complete(frame.lent(), self.stars.as_flattened(), candidate.lent(), scale);
+        match reply.answer {
+            0 => Ok(Completed { image: reply.image, stars: reply.star }),
+            _ => Err(Refusal::of(reply.number)),
         }
     }
 
@@ -288,8 +288,8 @@ impl Status {
 
 impl Candidate {
     /// The candidate that the C interface gave.
-    fn of(told: &raw::Candidate) -> Candidate {
-        Candidate { slot: told.slot, pass: told.pass, places: told.place, stars: told.star, field: told.field, rebuild: told.rebuild != 0 }
+    fn of(reply: &raw::Candidate) -> Candidate {
+        Candidate { slot: reply.slot, pass: reply.pass, places: reply.place, stars: reply.star, field: reply.field, rebuild: reply.rebuild != 0 }
     }
 
     /// The candidate as the C interface takes it.
@@ -311,9 +311,9 @@ impl Candidate {
 /// assert_eq!(star_search::sweep(1.0, Some(0.5), 0.25, &mut out).unwrap(), [1.0, 1.25, 0.75, 1.5, 0.5]);
 /// ```
 pub fn sweep(estimate: f32, error: Option<f32>, step: f32, out: &mut [f32]) -> Result<&mut [f32], Refusal> {
-    let told = raw::sweep(estimate, u32::from(error.is_some()), error.unwrap_or(0.0), step, out);
-    match told.answer {
-        0 => Ok(&mut out[..told.count as usize]),
-        _ => Err(Refusal::of(told.number)),
+    let reply = raw::sweep(estimate, u32::from(error.is_some()), error.unwrap_or(0.0), step, out);
+    match reply.answer {
+        0 => Ok(&mut out[..reply.count as usize]),
+        _ => Err(Refusal::of(reply.number)),
     }
 }

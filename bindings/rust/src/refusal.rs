@@ -22,7 +22,7 @@ pub enum Refusal {
     Stars = 7,
     /// 8: the state is fresh, ended, or at a read that exists in this frame and table.
     State = 8,
-    /// 9: the entry read lies inside the packed section and its stars are sound.
+    /// 9: the entry read lies inside the packed section and its stars are valid.
     Entry = 9,
     /// 10: ranks, bits past the last slot and the section's length agree.
     Blocks = 10,

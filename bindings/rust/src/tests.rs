@@ -62,7 +62,7 @@ fn statuses() {
 }
 
 #[test]
-fn options_are_told_apart() {
+fn options_are_distinguished() {
     // without the host's tolerance e is 1, and the keys are the same six; with a field error of 0 the stored edge decides
     let absent = Settings { matching: None, ..SETTINGS };
     assert_eq!(run(&FRAME, &absent, u64::MAX).2.reads(), 45);
@@ -74,7 +74,7 @@ fn options_are_told_apart() {
 
 #[test]
 fn a_list_within_an_allowance() {
-    let open = table().open().expect("a sound table");
+    let open = table().open().expect("a valid table");
     let whole = run(&FRAME, &SETTINGS, u64::MAX).0;
     let mut state = State::fresh();
     let mut list = open.candidates(&FRAME, &SETTINGS, &mut state, 20);
@@ -99,25 +99,25 @@ fn a_refusal_in_a_list_is_an_item() {
 /// The refusal of a fresh search.
 fn refused(frame: &Frame, settings: &Settings, table: &Table) -> Refusal {
     let mut state = State::fresh();
-    let told = table.search(frame, settings, &mut state, 3).expect_err("a refusal");
+    let reply = table.search(frame, settings, &mut state, 3).expect_err("a refusal");
     assert_eq!(state, State::fresh(), "a refused call leaves the state");
-    told
+    reply
 }
 
 #[test]
 fn refusals_of_a_search() {
-    let sound = table();
+    let valid = table();
     let many = [[1.0, 2.0]; 257];
-    assert_eq!(refused(&Frame { centroids: &many, ..FRAME }, &SETTINGS, &sound), Refusal::Centroids);
-    assert_eq!(refused(&Frame { centroids: &[[f32::NAN, 0.0]], ..FRAME }, &SETTINGS, &sound), Refusal::Coordinates);
-    assert_eq!(refused(&Frame { order: &[0, 1, 0], ..FRAME }, &SETTINGS, &sound), Refusal::Order);
-    assert_eq!(refused(&FRAME, &Settings { checking: 65, ..SETTINGS }, &sound), Refusal::Settings);
-    assert_eq!(refused(&FRAME, &Settings { fov: Some(f32::INFINITY), ..SETTINGS }, &sound), Refusal::Settings);
-    assert_eq!(refused(&Frame { passes: &[], ..FRAME }, &SETTINGS, &sound), Refusal::Passes);
-    assert_eq!(refused(&FRAME, &SETTINGS, &Table { slots: 449, ..sound }), Refusal::Words);
+    assert_eq!(refused(&Frame { centroids: &many, ..FRAME }, &SETTINGS, &valid), Refusal::Centroids);
+    assert_eq!(refused(&Frame { centroids: &[[f32::NAN, 0.0]], ..FRAME }, &SETTINGS, &valid), Refusal::Coordinates);
+    assert_eq!(refused(&Frame { order: &[0, 1, 0], ..FRAME }, &SETTINGS, &valid), Refusal::Order);
+    assert_eq!(refused(&FRAME, &Settings { checking: 65, ..SETTINGS }, &valid), Refusal::Settings);
+    assert_eq!(refused(&FRAME, &Settings { fov: Some(f32::INFINITY), ..SETTINGS }, &valid), Refusal::Settings);
+    assert_eq!(refused(&Frame { passes: &[], ..FRAME }, &SETTINGS, &valid), Refusal::Passes);
+    assert_eq!(refused(&FRAME, &SETTINGS, &Table { slots: 449, ..valid }), Refusal::Words);
     let stars = vec![[0.0; 3]; (1 << 20) + 1];
-    assert_eq!(refused(&FRAME, &SETTINGS, &Table { stars: &stars, ..sound }), Refusal::Stars);
-    assert_eq!(refused(&FRAME, &SETTINGS, &Table { stars: &STARS[..3], ..sound }), Refusal::Entry);
+    assert_eq!(refused(&FRAME, &SETTINGS, &Table { stars: &stars, ..valid }), Refusal::Stars);
+    assert_eq!(refused(&FRAME, &SETTINGS, &Table { stars: &STARS[..3], ..valid }), Refusal::Entry);
     assert_eq!(Refusal::Entry.number(), 9);
     assert!(Refusal::Entry.to_string().starts_with("refused by question 9: does the entry lie"));
 }
@@ -163,7 +163,7 @@ fn stored_states_go_on() {
         match table().search(&FRAME, &SETTINGS, &mut state, 2) {
             Ok(Answer::Candidate(candidate)) => list.push(candidate),
             Ok(Answer::Used) => {}
-            told => break told,
+            reply => break reply,
         }
     };
     assert_eq!((list, status), (whole.0, Ok(Answer::Ended(Status::NoMatch))));
@@ -195,23 +195,23 @@ fn allowance_zero_changes_nothing() {
     assert_eq!(table().search(&three, &SETTINGS, &mut ended, 0), Ok(Answer::Ended(Status::TooFew)), "no read is left");
     assert_eq!(ended.to_bytes()[8..], [0; 48], "an ended state is made anew");
     let mut plain = State::fresh();
-    let told = table().search(&FRAME, &SETTINGS, &mut plain, 1);
-    assert_eq!((table().search(&FRAME, &SETTINGS, &mut state, 1), state), (told, plain), "so is one after a read");
+    let reply = table().search(&FRAME, &SETTINGS, &mut plain, 1);
+    assert_eq!((table().search(&FRAME, &SETTINGS, &mut state, 1), state), (reply, plain), "so is one after a read");
 }
 
 #[test]
 fn completing() {
     let found = run(&FRAME, &SETTINGS, u64::MAX).0[4];
     assert!(found.rebuild);
-    let told = table().complete(&FRAME, &found, 0.0002).expect("completed");
-    assert_eq!(told.stars, STARS);
+    let reply = table().complete(&FRAME, &found, 0.0002).expect("completed");
+    assert_eq!(reply.stars, STARS);
     let unit = |v: &[f32; 3]| (v.iter().map(|part| part * part).sum::<f32>() - 1.0).abs() < 1e-6;
-    assert!(told.image.iter().all(unit));
+    assert!(reply.image.iter().all(unit));
     let other = table().complete(&FRAME, &found, 0.0004).expect("completed");
-    assert_ne!(other.image, told.image, "the scale given counts where the mark is set");
+    assert_ne!(other.image, reply.image, "the scale given counts where the mark is set");
     let plain = Candidate { rebuild: false, ..found };
     let by_pass: Completed = table().complete(&FRAME, &plain, 0.0004).expect("completed");
-    assert_eq!(by_pass.image, told.image, "and the pass's own where it isn't");
+    assert_eq!(by_pass.image, reply.image, "and the pass's own where it isn't");
     let refusal = |candidate: Candidate, scale: f32| table().complete(&FRAME, &candidate, scale).expect_err("a refusal");
     assert_eq!(refusal(found, 0.0), Refusal::Candidate);
     assert_eq!(refusal(Candidate { pass: 1, ..found }, 0.1), Refusal::Candidate);

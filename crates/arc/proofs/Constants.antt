@@ -3,7 +3,7 @@ use mathlib.Core.Path.{_≡_, refl}
 use Prim.Native.Nat.{_^_}
 use mathlib.Core.Bool.{true, false}
 use lib.Ieee.{binary32, round, ofBits}
-use Rattle.float_order.specs.Value.{half32}
+use Rattle.numeric.specs.Value.{half32}
 use Rattle.arc.specs.Arc.{tiny, p0, p1, p2, q1}
 
 -- 2 ^ -12

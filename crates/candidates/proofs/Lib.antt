@@ -1,4 +1,5 @@
-pub mod Fields
-pub mod Testing
+pub mod FovConsistent
+pub mod FieldFits
+pub mod EntryTests
 pub mod Hits
-pub mod Held
+pub mod StarsInside

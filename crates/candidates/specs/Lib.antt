@@ -1,3 +1,6 @@
+pub mod StarVectors
+pub mod StarsInside
+pub mod Comparisons
 pub mod NoCandidate
-pub mod Tests
+pub mod EntryTests
 pub mod Claims

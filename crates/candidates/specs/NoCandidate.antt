@@ -2,10 +2,10 @@
 use Prim.Native.Nat.{ℕ}
 use mathlib.Core.Bool.{false}
 use mathlib.Core.List.{[], _∷_}
-use Rattle.float_order.specs.Value.{zero32}
-use Rattle.brightness_list.specs.declared.Place.{Place}
+use Rattle.numeric.specs.Value.{zero32}
+use Rattle.preprocess.specs.declared.brightness_list.Place.{Place}
 use Rattle.pattern_entry.specs.Entry.{star}
-use Rattle.candidates.specs.declared.Candidate.{Candidate}
+use Rattle.candidates.specs.declared.entry_tests.Candidate.{Candidate}
 
 -- the place of this number
 abbrev pub placeOf : ℕ → Place

@@ -8,15 +8,15 @@ use lib.ListN.{length, replicate}
 use lib.Ieee.{Float, binary32, ofBits, round}
 use Rattle.square_root.specs.Root.{rootOf}
 use Rattle.arc.specs.Arc.{arcOf}
-use Rattle.key_hash.specs.Key.{hashOf, homeOf, markOf}
-use Rattle.key_list.specs.Keys.{keysOf}
+use Rattle.pattern.specs.Key.{hashOf, homeOf, markOf}
+use Rattle.pattern_keys.specs.Keys.{keysOf}
 use Rattle.combinations.specs.Lists.{All}
-use Rattle.combinations.specs.declared.Four.{Four}
-use Rattle.combinations.specs.Fours.{four, fours, foursOf}
+use Rattle.combinations.specs.declared.Combination.{Combination}
+use Rattle.combinations.specs.Combinations.{four, combinationList, combinationsOfSum}
 use Rattle.pattern_catalog.specs.Answers.{filledAt, empty}
 use Rattle.pattern_catalog.specs.SlotRead.{slotRead}
-use Rattle.preprocess.specs.Vectors.{unitOf}
-use Rattle.tolerance.specs.declared.Tolerance.the-variants.{Given}
+use Rattle.preprocess.specs.UnitVectors.{unitOf}
+use Rattle.settings.specs.declared.tolerance.Tolerance.the-variants.{Given}
 use Rattle.fov_sweep.specs.Sweep.{sweepOf}
 use Rattle.undivided_run.specs.Undivided.{Feed, slotOf, chain}
 
@@ -26,10 +26,10 @@ pub data Case : Type 0 where
   hash : (bins : ℕ) (parts : List ℕ) (slots : ℕ) (value mark home : ℕ) → Case
   -- home and slot count of a table without an empty slot; the slots that the probes read, in order
   probes : (home slots : ℕ) (read : List ℕ) → Case
-  -- how many positions there are; their fours in order
-  positions : (count : ℕ) (listed : List Four) → Case
-  -- how many positions there are, and a sum; the fours of that sum in order
-  positionsOfSum : (count total : ℕ) (listed : List Four) → Case
+  -- how many positions there are; their combinations in order
+  positions : (count : ℕ) (listed : List Combination) → Case
+  -- how many positions there are, and a sum; the combinations of that sum in order
+  positionsOfSum : (count total : ℕ) (listed : List Combination) → Case
   -- lowest and highest key, and centre; the keys in order
   keys : (lowest highest centre : List ℕ) (listed : List (List ℕ)) → Case
   -- rank and first word of a table's one block, a slot and another; the first one's place, the other being empty
@@ -63,7 +63,7 @@ filledTable first count =
       patterns = 1;
       entry = λ x. some x;
       test = λ r x. none;
-      sound = λ x. true;
+      valid = λ x. true;
     }
 
 -- the slots that a key's reads go to in that table, in order
@@ -82,8 +82,8 @@ abbrev pub Holds : Case → Type 0
 Holds (hash bins parts slots value mark home) =
     (hashOf parts bins ≡ value) × (markOf (hashOf parts bins) ≡ mark) × (homeOf (hashOf parts bins) slots ≡ home)
 Holds (probes home slots read) = slotsRead home slots ≡ read
-Holds (positions count listed) = fours count ≡ listed
-Holds (positionsOfSum count total listed) = foursOf count total ≡ listed
+Holds (positions count listed) = combinationList count ≡ listed
+Holds (positionsOfSum count total listed) = combinationsOfSum count total ≡ listed
 Holds (keys lowest highest centre listed) = keysOf centre lowest highest ≡ listed
 Holds (ranked rank word slot other place) =
     (slotRead 448 (block rank word) (section place) slot ≡ filledAt place) × (slotRead 448 (block rank word) (section place) other ≡ empty)

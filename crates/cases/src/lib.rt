@@ -1,1 +1,1 @@
-// Document 01's eleven bulleted cases. There is no code here: specs/ has the table, proofs/ its theorem.
+// Document 01's eleven cases, and an example of demand 3. Definitions and laws, no code.

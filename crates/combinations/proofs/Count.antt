@@ -1,4 +1,4 @@
--- There are n choose 4 fours below n. No list is run: sums over a range change places. Assumes nothing.
+-- There are n choose 4 combinations below n. No list is run: sums over a range change places. Assumes nothing.
 use mathlib.Core.Path.{_≡_, refl, sym, _∙_, ap, ap₂}
 use Prim.Native.Nat.{ℕ, zero, suc, _+_, _-_, _*_, _≤_, _<_}
 use native.Mathlib.Omega.{arith}
@@ -10,8 +10,8 @@ use borrow.Author.Tests.{eq-eqb, ne-eqb}
 use lib.Dec.{eqb}
 use lib.ListN.{length, length-append}
 use Rattle.combinations.specs.Lists.{each, span, upto}
-use Rattle.combinations.specs.Fours.{Four, foursOf, fours, choose}
-use Rattle.combinations.specs.Claims.{FoursCount, Fours64}
+use Rattle.combinations.specs.Combinations.{Combination, combinationsOfSum, combinationList, choose}
+use Rattle.combinations.specs.Claims.{CombinationsCount, Combinations64}
 
 -- the sum of g over m numbers from lo on
 total : ℕ → ℕ → (ℕ → ℕ) → ℕ
@@ -61,15 +61,15 @@ totals-choose k lo hi g h = by (decLe lo hi)
     by (no p) = let e : hi - lo ≡ 0 = omega arith in rw e
 
 -- over all sums, what a range of positions lists
-layer : (T k lo hi : ℕ) (h : ℕ → ℕ → List Four) → ((x : ℕ) → lo ≤ x → x < hi → total 0 T (λ s. length (h x s)) ≡ choose k (hi - suc x)) → total 0 T (λ s. length (each (upto lo hi) (λ x. h x s))) ≡ choose (suc k) (hi - lo)
+layer : (T k lo hi : ℕ) (h : ℕ → ℕ → List Combination) → ((x : ℕ) → lo ≤ x → x < hi → total 0 T (λ s. length (h x s)) ≡ choose k (hi - suc x)) → total 0 T (λ s. length (each (upto lo hi) (λ x. h x s))) ≡ choose (suc k) (hi - lo)
 unfolding upto
 layer T k lo hi h p =
     total-≡ T 0 (λ s. length (each (span lo (hi - lo)) (λ x. h x s))) (λ s. total lo (hi - lo) (λ x. length (h x s))) (λ s. length-span (hi - lo) lo (λ x. h x s))
     ∙ total-swap T 0 (hi - lo) lo (λ s x. length (h x s))
     ∙ totals-choose k lo hi (λ x. total 0 T (λ s. length (h x s))) p
 
--- a four has one sum
-one-sum : (q : Four) (k m lo : ℕ) → lo ≤ k → k < lo + m → total lo m (λ s. length (cond (eqb k s) (q ∷ []) [])) ≡ 1
+-- a combination has one sum
+one-sum : (q : Combination) (k m lo : ℕ) → lo ≤ k → k < lo + m → total lo m (λ s. length (cond (eqb k s) (q ∷ []) [])) ≡ 1
 unfolding total
 one-sum q k zero lo u v = absurd (omega arith)
 one-sum q k (suc m) lo u v = by (decLe k lo) (λ z. one-sum q k m (suc lo) z (omega arith))
@@ -82,10 +82,10 @@ one-sum q k (suc m) lo u v = by (decLe k lo) (λ z. one-sum q k m (suc lo) z (om
     by (yes r) ih = rw (eq-eqb k lo (omega arith)) (omega (arith, later m (suc lo) (omega arith)))
     by (no r) ih = rw (ne-eqb k lo (λ e. r (omega arith))) (omega (arith, ih (omega arith)))
 
-pub fours-count : FoursCount
-unfolding fours foursOf upto choose
-fours-count n =
-    length-span (4 * n - 0) 0 (foursOf n)
+pub combinations-count : CombinationsCount
+unfolding combinationList combinationsOfSum upto choose
+combinations-count n =
+    length-span (4 * n - 0) 0 (combinationsOfSum n)
     ∙ layer (4 * n - 0) 3 0 n _ (λ a _ a<.
     layer (4 * n - 0) 2 (suc a) n _ λ b _ b<.
     layer (4 * n - 0) 1 (suc b) n _ λ c _ c<.
@@ -104,5 +104,5 @@ choose-grows (suc k) zero n h = omega arith
 choose-grows (suc k) (suc m) zero h = absurd (omega arith)
 choose-grows (suc k) (suc m) (suc n) h = omega (arith, choose-grows k m n (omega arith), choose-grows (suc k) m n (omega arith))
 
-pub fours-64 : Fours64
-fours-64 n h = omega (arith, fours-count n, choose-64, choose-grows 4 n 64 h)
+pub combinations-64 : Combinations64
+combinations-64 n h = omega (arith, combinations-count n, choose-64, choose-grows 4 n 64 h)

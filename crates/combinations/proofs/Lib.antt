@@ -1,7 +1,7 @@
 pub mod Lists
-pub mod EachFour
+pub mod EachCombination
 pub mod Order
-pub mod Walk
+pub mod Enumeration
 pub mod Count
 pub mod Successor
 pub mod Steps

@@ -1,4 +1,4 @@
--- Laws of lists made of a list for each element: what holds of every element, their order, what stands in them, how long they are, what a successor walks. Assumes nothing.
+-- Laws of lists made of a list for each element: what holds of every element, their order, what stands in them, how long they are, what a successor enumerates. Assumes nothing.
 use mathlib.Core.Path.{_≡_, sym, _∙_, ap, subst}
 use Prim.Native.Nat.{ℕ, zero, suc, _+_, _-_, _*_, _≤_, _<_}
 use native.Mathlib.Omega.{arith}
@@ -98,7 +98,7 @@ pub all-after : {A : Type 0} (P : A → Type 0) (pre : List A) (x : A) (post : L
 all-after P [] x post h = h .1
 all-after P (y ∷ pre) x post h = all-after P pre x post (h .1)
 
--- a walk begins with the list's first, and from an element on it walks the rest
+-- an enumeration begins with the list's first, and from an element on it enumerates the rest
 pub follows-is-first : {A : Type 0} (next : A → Option A) (xs : List A) (o : Option A) → Follows next o xs → o ≡ firstOf xs
 follows-is-first next [] o h = h
 follows-is-first next (x ∷ xs) o h = h .0

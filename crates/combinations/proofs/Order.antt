@@ -1,4 +1,4 @@
--- The fours below n in the list's order: by sum, and within a sum lexicographically, each before every later one. Assumes nothing.
+-- The combinations below n in the list's order: by sum, and within a sum lexicographically, each before every later one. Assumes nothing.
 use mathlib.Core.Path.{_≡_, refl, sym, _∙_}
 use mathlib.Core.Logic.{inl, inr}
 use Prim.Native.Nat.{ℕ, suc, _+_, _*_}
@@ -7,41 +7,41 @@ use mathlib.Core.List.{List, [], _∷_}
 use mathlib.Core.Bool.{Bool, true, false, cond}
 use lib.Dec.{eqb}
 use Rattle.combinations.specs.Lists.{each, upto, Ordered}
-use Rattle.combinations.specs.Fours.{Four, four, Precedes, sum, foursOf, fours}
-use Rattle.combinations.specs.Claims.{FoursOrdered, PrecedesAnother}
+use Rattle.combinations.specs.Combinations.{Combination, four, Precedes, sum, combinationsOfSum, combinationList}
+use Rattle.combinations.specs.Claims.{CombinationsOrdered, PrecedesAnother}
 use Rattle.combinations.proofs.Lists.{all-upto, ordered-upto}
-use Rattle.combinations.proofs.EachFour.{all-if, all-foursOf}
+use Rattle.combinations.proofs.EachCombination.{all-if, all-combinations-of-sum}
 
--- fours of the sum s whose first positions, one to four of them, are these
-abbrev First : ℕ → ℕ → Four → Type 0
+-- combinations of the sum s whose first positions, one to four of them, are these
+abbrev First : ℕ → ℕ → Combination → Type 0
 First s a q = (sum q ≡ s) × (q .a ≡ a)
 
-abbrev Second : ℕ → ℕ → ℕ → Four → Type 0
+abbrev Second : ℕ → ℕ → ℕ → Combination → Type 0
 Second s a b q = (sum q ≡ s) × (q .a ≡ a) × (q .b ≡ b)
 
-abbrev Third : ℕ → ℕ → ℕ → ℕ → Four → Type 0
+abbrev Third : ℕ → ℕ → ℕ → ℕ → Combination → Type 0
 Third s a b c q = (sum q ≡ s) × (q .a ≡ a) × (q .b ≡ b) × (q .c ≡ c)
 
-abbrev Fourth : ℕ → ℕ → ℕ → ℕ → ℕ → Four → Type 0
+abbrev Fourth : ℕ → ℕ → ℕ → ℕ → ℕ → Combination → Type 0
 Fourth s a b c d q = (sum q ≡ s) × (q .a ≡ a) × (q .b ≡ b) × (q .c ≡ c) × (q .d ≡ d)
 
--- one four, or none
-ordered-if : (b : Bool) (q : Four) → Ordered Precedes (cond b (q ∷ []) [])
+-- one combination, or none
+ordered-if : (b : Bool) (q : Combination) → Ordered Precedes (cond b (q ∷ []) [])
 ordered-if true q = (tt, tt)
 ordered-if false q = tt
 
 -- the list within a sum, built up from the last position to the first
 module _ (n s : ℕ) where
-  abbrev one : ℕ → ℕ → ℕ → ℕ → List Four
+  abbrev one : ℕ → ℕ → ℕ → ℕ → List Combination
   one a b c d = cond (eqb (a + b + c + d) s) (four a b c d ∷ []) []
 
-  abbrev fourths : ℕ → ℕ → ℕ → List Four
+  abbrev fourths : ℕ → ℕ → ℕ → List Combination
   fourths a b c = each (upto (suc c) n) (one a b c)
 
-  abbrev thirds : ℕ → ℕ → List Four
+  abbrev thirds : ℕ → ℕ → List Combination
   thirds a b = each (upto (suc b) n) (fourths a b)
 
-  abbrev seconds : ℕ → List Four
+  abbrev seconds : ℕ → List Combination
   seconds a = each (upto (suc a) n) (thirds a)
 
   fourths-ordered : (a b c : ℕ) → Ordered Precedes (fourths a b c)
@@ -68,8 +68,8 @@ module _ (n s : ℕ) where
       (λ b. thirds-ordered a b)
       (λ i j q p l x y. inr (x .0 ∙ sym (y .0), inr (inl (x .1 ∙ sym (y .1), omega (arith, x .2, y .2)))))
 
-  sum-ordered : Ordered Precedes (foursOf n s)
-  unfolding foursOf sum
+  sum-ordered : Ordered Precedes (combinationsOfSum n s)
+  unfolding combinationsOfSum sum
   sum-ordered =
       ordered-upto Precedes (First s) 0 n seconds
       (λ a. all-upto (First s a) (suc a) n (thirds a) λ b _ _. all-upto (First s a) (suc b) n (fourths a b) λ c _ _. all-upto (First s a) (suc c) n (one a b c) λ d _ _. all-if (First s a) (a + b + c + d) s (four a b c d) λ e. (e, refl))
@@ -77,15 +77,15 @@ module _ (n s : ℕ) where
       (λ i j q p l x y. inr (x .0 ∙ sym (y .0), inl (omega (arith, x .1, y .1))))
 
 -- .. and over all sums
-pub fours-ordered : FoursOrdered
-unfolding fours
-fours-ordered n =
-    ordered-upto Precedes (λ s q. sum q ≡ s) 0 (4 * n) (foursOf n)
-    (λ s. all-foursOf (λ q. sum q ≡ s) n s λ q _ e. e)
+pub combinations-ordered : CombinationsOrdered
+unfolding combinationList
+combinations-ordered n =
+    ordered-upto Precedes (λ s q. sum q ≡ s) 0 (4 * n) (combinationsOfSum n)
+    (λ s. all-combinations-of-sum (λ q. sum q ≡ s) n s λ q _ e. e)
     (λ s. sum-ordered n s)
     (λ i j q p l x y. inl (omega arith))
 
--- no four precedes itself
+-- no combination precedes itself
 pub precedes-another : PrecedesAnother
 precedes-another q (inl h) = omega arith
 precedes-another q (inr (_, inl h)) = omega arith

@@ -1,4 +1,4 @@
 pub mod Lists
-pub mod Fours
+pub mod Combinations
 pub mod Successor
 pub mod Claims

@@ -37,7 +37,7 @@ abbrev pub firstOf : {A : Type 0} → List A → Option A
 firstOf [] = none
 firstOf (x ∷ xs) = some x
 
--- A successor walks a list: from o, it gives exactly these, in order, and then nothing.
+-- A successor enumerates a list: from o, it gives exactly these, in order, and then nothing.
 abbrev pub Follows : {A : Type 0} → (A → Option A) → Option A → List A → Type 0
 Follows next o [] = o ≡ none
 Follows next o (x ∷ xs) = (o ≡ some x) × Follows next (next x) xs

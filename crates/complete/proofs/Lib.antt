@@ -1,2 +1,5 @@
-pub mod Asking
-pub mod Saying
+pub mod PlacesRise
+pub mod Question14
+pub mod PlacesInside
+pub mod QuestionOrder
+pub mod Answers

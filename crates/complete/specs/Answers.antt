@@ -3,10 +3,10 @@ use Prim.Native.Nat.{ℕ}
 use mathlib.Core.List.{List, [], _∷_}
 use lib.ListN.{getD}
 use lib.Ieee.{Float}
-use Rattle.float_order.specs.Value.{zero32}
-use Rattle.complete.specs.declared.Row.{Row}
-use Rattle.complete.specs.declared.Completion.{Completion}
-use Rattle.complete.specs.declared.Completed.{Completed}
+use Rattle.numeric.specs.Value.{zero32}
+use Rattle.complete.specs.declared.completing.Row.{Row}
+use Rattle.complete.specs.declared.completing.Completion.{Completion}
+use Rattle.complete.specs.declared.completing.Completed.{Completed}
 
 -- "gives the four image vectors in matched order beside the four star vectors", or is refused with this question's number
 pub data Answer : Type 0 where

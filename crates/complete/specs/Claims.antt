@@ -6,13 +6,13 @@ use mathlib.Core.Logic.{_↔_}
 use mathlib.Core.List.{List}
 use lib.Ieee.{Float}
 use Rattle.preprocess.specs.Questions.{centroidsFit, coordinatesFit}
-use Rattle.brightness_list.specs.Order.{orderFits}
-use Rattle.passes.specs.Passes.{passesFit}
-use Rattle.star_slice.specs.Stars.{starsFit}
-use Rattle.candidates.specs.declared.Candidate.{Candidate}
-use Rattle.complete.specs.declared.Completion.{Completion}
+use Rattle.preprocess.specs.BrightnessList.{orderFits}
+use Rattle.settings.specs.Passes.{passesFit}
+use Rattle.pattern_entry.specs.Stars.{starsFit}
+use Rattle.candidates.specs.declared.entry_tests.Candidate.{Candidate}
+use Rattle.complete.specs.declared.completing.Completion.{Completion}
 use Rattle.complete.specs.Answers.{completedSays}
-use Rattle.candidate_questions.specs.Questions.{candidateFits, fourSound}
+use Rattle.complete.specs.Question14.{candidateFits, fourValid}
 use Rattle.complete.specs.Completing.{completing, completedOf}
 
 -- What `complete` returns says document 01's answer: `completed-says`.
@@ -28,7 +28,7 @@ pub record Asked (centroids : List Float) (order : List ℕ) (passes stars : Lis
   pub five : passesFit passes ≡ true
   pub seven : starsFit stars ≡ true
   pub fourteen : candidateFits order passes candidate scale ≡ true
-  pub nine : fourSound stars (candidate .stars) ≡ true
+  pub nine : fourValid stars (candidate .stars) ≡ true
 
 -- It is done exactly then: `done-exactly`.
 abbrev pub DoneExactly : Type 0

@@ -3,16 +3,16 @@ use Prim.Native.Nat.{ℕ}
 use mathlib.Core.Bool.{Bool}
 use mathlib.Core.List.{List}
 use lib.Ieee.{Float}
-use Rattle.star_slice.specs.Ask.{ask}
-use Rattle.star_slice.specs.Stars.{starsFit}
-use Rattle.star_directions.specs.Directions.{starsOf}
+use Rattle.pattern_entry.specs.FirstNo.{ask}
+use Rattle.pattern_entry.specs.Stars.{starsFit}
+use Rattle.candidates.specs.StarVectors.{starsOf}
 use Rattle.preprocess.specs.Questions.{centroidsFit, coordinatesFit}
-use Rattle.brightness_list.specs.Order.{orderFits}
-use Rattle.passes.specs.Passes.{passesFit}
-use Rattle.candidates.specs.declared.Candidate.{Candidate}
-use Rattle.candidate_questions.specs.Questions.{candidateFits, fourSound}
-use Rattle.image_vectors.specs.Vectors.{scaleOf, imageVectors, matchedOf}
-use Rattle.complete.specs.declared.Completed.{Completed}
+use Rattle.preprocess.specs.BrightnessList.{orderFits}
+use Rattle.settings.specs.Passes.{passesFit}
+use Rattle.candidates.specs.declared.entry_tests.Candidate.{Candidate}
+use Rattle.complete.specs.Question14.{candidateFits, fourValid}
+use Rattle.complete.specs.ImageVectors.{scaleOf, imageVectors, matchedOf}
+use Rattle.complete.specs.declared.completing.Completed.{Completed}
 use Rattle.complete.specs.Answers.{Answer, vectors, refused, completedAs}
 
 -- the last three questions: 7, 14, then 9
@@ -26,7 +26,7 @@ completing centroids order passes stars candidate scale =
     (ask (coordinatesFit centroids) (refused 2)
     (ask (orderFits order centroids) (refused 3)
     (ask (passesFit passes) (refused 5)
-    (lastAsked (starsFit stars) (candidateFits order passes candidate scale) (fourSound stars (candidate .stars))
+    (lastAsked (starsFit stars) (candidateFits order passes candidate scale) (fourValid stars (candidate .stars))
     (vectors
     (matchedOf (imageVectors centroids order (candidate .places) (scaleOf passes candidate scale)))
     (starsOf stars (candidate .stars)))))))

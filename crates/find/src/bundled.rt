@@ -1,8 +1,8 @@
 // The bundled table and frames, made by `cases story` (oracle/README.md): a table by the source's own generator over a patch of made
 // sky, frame A of its stars, and frame B with glint.
 use search_feed::SearchConfig;
-use tolerance::Tolerance;
-use undivided_run::Cap;
+use settings::tolerance::Tolerance;
+use undivided_run::state::Cap;
 
 // The slots of the table.
 pub const SLOTS: u64 = 109;

@@ -1,17 +1,17 @@
-// Searches two bundled frames in a bundled table, or the frames of the replay stream that its argument names, and tells what each search does.
+// Searches two bundled frames in a bundled table, or the frames of the replay stream that its argument names, and reports what each search does.
 
 mod bundled;
 mod recorded;
 
-use crate::recorded::tell_stream;
-use telling::table_line;
-use telling::tell_search;
-use telling::text;
-use undivided_run::Phase;
-use undivided_run::State;
+use crate::recorded::report_stream;
+use search_report::report::report_search;
+use search_report::report::table_line;
+use search_report::report::text;
+use undivided_run::state::Phase;
+use undivided_run::state::State;
 
 // One bundled frame.
-fn tell_bundled(name: &[u8], coords: &[f32], places: &[u32]) {
+fn report_bundled(name: &[u8], coords: &[f32], places: &[u32]) {
     let words = bundled::WORDS;
     let packed = bundled::PACKED;
     let stars = bundled::STARS;
@@ -22,7 +22,7 @@ fn tell_bundled(name: &[u8], coords: &[f32], places: &[u32]) {
         patterns: 0,
         reads: 0,
     };
-    tell_search(
+    report_search(
         bundled::config(),
         bundled::SLOTS,
         &words,
@@ -36,21 +36,21 @@ fn tell_bundled(name: &[u8], coords: &[f32], places: &[u32]) {
 }
 
 // The bundled table and the two frames.
-fn tell_frames() {
+fn report_frames() {
     let words = bundled::WORDS;
     let packed = bundled::PACKED;
     let stars = bundled::STARS;
     table_line(bundled::SLOTS, &words, &packed, &stars);
     let spots_a = bundled::SPOTS_A;
     let order_a = bundled::ORDER_A;
-    tell_bundled(b"frame A: ", &spots_a, &order_a);
+    report_bundled(b"frame A: ", &spots_a, &order_a);
     let spots_b = bundled::SPOTS_B;
     let order_b = bundled::ORDER_B;
-    tell_bundled(b"frame B: ", &spots_b, &order_b);
+    report_bundled(b"frame B: ", &spots_b, &order_b);
 }
 
 // The stream in the file of a name.
-fn tell_file(path: &[u8]) {
+fn report_file(path: &[u8]) {
     let fd = os::open_read(path);
     if fd < 0 {
         text(b"can't open ");
@@ -58,15 +58,15 @@ fn tell_file(path: &[u8]) {
         text(b"\n");
         return;
     }
-    tell_stream(fd);
+    report_stream(fd);
 }
 
 fn main() {
     if os::arg_count() < 2 {
-        tell_frames();
+        report_frames();
         return;
     }
     let mut path = io::buffer();
     let n = os::arg(1, &mut path);
-    tell_file(&path[..n]);
+    report_file(&path[..n]);
 }

@@ -1,23 +1,23 @@
-// The records of a stream, each search in it told.
-use stream::Coming;
-use stream_parts::first_bytes;
-use stream_parts::first_floats;
-use stream_parts::first_longs;
-use stream_parts::first_words;
-use stream_records::Desk;
-use stream_records::Record;
-use stream_records::Request;
-use telling::number;
-use telling::table_line;
-use telling::tell_call;
-use telling::tell_search;
-use telling::text;
-use undivided_run::State;
+// The records of a stream, each search in it reported.
+use search_report::report::number;
+use search_report::report::report_call;
+use search_report::report::report_search;
+use search_report::report::table_line;
+use search_report::report::text;
+use stream::lent::first_bytes;
+use stream::lent::first_floats;
+use stream::lent::first_longs;
+use stream::lent::first_words;
+use stream::next_record::Coming;
+use stream::records::Inputs;
+use stream::records::Record;
+use stream::records::Request;
+use undivided_run::state::State;
 
-// Whether the stream goes on after a record, and the desk after it.
-struct Told {
+// Whether the stream goes on after a record, and the inputs after it.
+struct Reported {
     more: bool,
-    desk: Desk,
+    inputs: Inputs,
 }
 
 // The name that a search in a stream goes by: its record's number, from 0.
@@ -34,9 +34,9 @@ fn broken_line(n: u64) {
     text(b" on\n");
 }
 
-// One call from the desk's state.
+// One call from the inputs' state.
 fn call(
-    desk: Desk,
+    inputs: Inputs,
     table: &[u64],
     packed: &[u8],
     stars: &[f32],
@@ -45,10 +45,10 @@ fn call(
     triples: &[f32],
     allowance: u64,
 ) -> State {
-    let config = desk.config;
-    let slots = desk.table.slots;
-    let state = desk.state;
-    tell_call(
+    let config = inputs.config;
+    let slots = inputs.table.slots;
+    let state = inputs.state;
+    report_call(
         config,
         slots,
         table,
@@ -62,9 +62,9 @@ fn call(
     )
 }
 
-// A whole search from the desk's state.
+// A whole search from the inputs' state.
 fn run(
-    desk: Desk,
+    inputs: Inputs,
     table: &[u64],
     packed: &[u8],
     stars: &[f32],
@@ -72,10 +72,10 @@ fn run(
     places: &[u32],
     triples: &[f32],
 ) -> State {
-    let config = desk.config;
-    let slots = desk.table.slots;
-    let state = desk.state;
-    tell_search(
+    let config = inputs.config;
+    let slots = inputs.table.slots;
+    let state = inputs.state;
+    report_search(
         config,
         slots,
         table,
@@ -88,25 +88,25 @@ fn run(
     )
 }
 
-// What record number n asks for, told over the lent parts. Slot reads, sweeps and completings are no searches, and are passed over.
-fn tell(
+// What record number n asks for, reported over the lent parts. Slot reads, sweeps and completings are no searches, and are passed over.
+fn report(
     n: u64,
     request: Request,
-    desk: Desk,
+    inputs: Inputs,
     table: &[u64],
     packed: &[u8],
     stars: &[f32],
     coords: &[f32],
     places: &[u32],
     triples: &[f32],
-) -> Told {
+) -> Reported {
     let mut more = true;
-    let mut left = desk.state;
+    let mut left = inputs.state;
     match request {
         Request::Call(allowance) => {
             record_name(n);
             let s = call(
-                desk,
+                inputs,
                 table,
                 packed,
                 stars,
@@ -119,23 +119,26 @@ fn tell(
         }
         Request::Run(_) => {
             record_name(n);
-            let s = run(desk, table, packed, stars, coords, places, triples);
+            let s = run(inputs, table, packed, stars, coords, places, triples);
             left = s;
         }
-        Request::Open => table_line(desk.table.slots, table, packed, stars),
+        Request::Open => table_line(inputs.table.slots, table, packed, stars),
         Request::Broken => {
             broken_line(n);
             more = false;
         }
         _ => {}
     }
-    let mut after = desk;
+    let mut after = inputs;
     after.state = left;
-    Told { more, desk: after }
+    Reported {
+        more,
+        inputs: after,
+    }
 }
 
-// What record number n asks for, told over as much of the lent arrays as the desk says is taken.
-fn tell_lent(
+// What record number n asks for, reported over as much of the lent arrays as the inputs say is taken.
+fn report_lent(
     n: u64,
     record: Record,
     table: &[u64; 2560],
@@ -144,43 +147,49 @@ fn tell_lent(
     coords: &[f32; 640],
     places: &[u32; 320],
     triples: &[f32; 900],
-) -> Told {
+) -> Reported {
     let request = record.request;
-    let desk = record.desk;
-    tell(
+    let inputs = record.inputs;
+    report(
         n,
         request,
-        desk,
-        first_longs(table, desk.table.words),
-        first_bytes(packed, desk.table.packed),
-        first_floats(stars, desk.table.stars),
-        first_floats(coords, desk.frame.coords),
-        first_words(places, desk.frame.places),
-        first_floats(triples, desk.frame.triples),
+        inputs,
+        first_longs(table, inputs.table.words),
+        first_bytes(packed, inputs.table.packed),
+        first_floats(stars, inputs.table.stars),
+        first_floats(coords, inputs.frame.coords),
+        first_words(places, inputs.frame.places),
+        first_floats(triples, inputs.frame.triples),
     )
 }
 
-// Record number n, read and told.
-fn next_told(
+// Record number n, read and reported.
+fn next_reported(
     fd: i32,
     n: u64,
-    desk: Desk,
+    inputs: Inputs,
     table: &mut [u64; 2560],
     packed: &mut [u8; 1500000],
     stars: &mut [f32; 200000],
     coords: &mut [f32; 640],
     places: &mut [u32; 320],
     triples: &mut [f32; 900],
-) -> Told {
-    match stream::next_record(fd, table, packed, stars, coords, places, triples) {
-        Coming::End => Told { more: false, desk },
+) -> Reported {
+    match stream::next_record::next_record(fd, table, packed, stars, coords, places, triples) {
+        Coming::End => Reported {
+            more: false,
+            inputs,
+        },
         Coming::Broken => {
             broken_line(n);
-            Told { more: false, desk }
+            Reported {
+                more: false,
+                inputs,
+            }
         }
         Coming::Record(kind, w) => {
-            let record = stream_records::record_of(kind, w, desk);
-            tell_lent(
+            let record = stream::records::record_of(kind, w, inputs);
+            report_lent(
                 n,
                 record,
                 &*table,
@@ -195,20 +204,20 @@ fn next_told(
 }
 
 // The stream that a descriptor gives, record after record. It has fewer than 2^64 of them.
-pub fn tell_stream(fd: i32) {
+pub fn report_stream(fd: i32) {
     let mut table = [0u64; 2560];
-    let mut packed = stream_parts::no_bytes();
-    let mut stars = stream_parts::no_stars();
+    let mut packed = stream::lent::no_bytes();
+    let mut stars = stream::lent::no_stars();
     let mut coords = [0.0f32; 640];
     let mut places = [0u32; 320];
     let mut triples = [0.0f32; 900];
-    let mut desk = stream_records::start();
+    let mut inputs = stream::records::start();
     let mut n: u64 = 0;
     while n < u64::MAX {
-        let t = next_told(
+        let t = next_reported(
             fd,
             n,
-            desk,
+            inputs,
             &mut table,
             &mut packed,
             &mut stars,
@@ -219,8 +228,8 @@ pub fn tell_stream(fd: i32) {
         if !t.more {
             return;
         }
-        let d = t.desk;
-        desk = d;
+        let d = t.inputs;
+        inputs = d;
         n += 1;
     }
 }

@@ -8,7 +8,7 @@ use lib.Ieee.{Float}
 use Rattle.fov_sweep.specs.Sweep.{sweepOf, sweepFits, listFits, sweptOf, laterOf}
 use Rattle.fov_sweep.specs.Answers.{refused, values, sweptSays, sweeping}
 use Rattle.fov_sweep.specs.Claims.{SaysTheAnswer}
-use Rattle.tolerance.specs.declared.Tolerance.{Tolerance}
+use Rattle.settings.specs.declared.tolerance.Tolerance.{Tolerance}
 use Rattle.fov_sweep.specs.declared.Swept.{Swept}
 use Rattle.fov_sweep.specs.declared.Swept.the-variants.{Values, Refused}
 

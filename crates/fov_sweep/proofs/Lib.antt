@@ -1,5 +1,5 @@
 pub mod Offsets
-pub mod Counting
-pub mod Writing
-pub mod Whole
+pub mod CountValues
+pub mod WriteValues
+pub mod BuildFovSweep
 pub mod Answers

@@ -6,11 +6,11 @@ use mathlib.Core.Bool.{Bool, true, false, cond, _&&_}
 use mathlib.Core.List.{[], _∷_, _++_}
 use lib.ListN.{length, length-append}
 use lib.Ieee.{Float, binary32, add, sub, lt, le}
-use Rattle.float_order.specs.Value.{zero32, pi32}
-use Rattle.float_order.specs.Choice.{smaller}
-use Rattle.float_order.proofs.Order.{holds, lt-not-le}
-use Rattle.tolerance.specs.declared.Tolerance.{Tolerance}
-use Rattle.tolerance.specs.declared.Tolerance.the-variants.{Given, Absent}
+use Rattle.numeric.specs.Value.{zero32, pi32}
+use Rattle.numeric.specs.MinMax.{smaller}
+use Rattle.numeric.proofs.Order.{holds, lt-not-le}
+use Rattle.settings.specs.declared.tolerance.Tolerance.{Tolerance}
+use Rattle.settings.specs.declared.tolerance.Tolerance.the-variants.{Given, Absent}
 use Rattle.fov_sweep.specs.Sweep.{pairAt, pairsFrom, besideOf, sweepOf}
 use Rattle.fov_sweep.specs.Reach.{reachOf}
 use Rattle.fov_sweep.specs.Claims.{MoreOffsets}

@@ -4,7 +4,7 @@ use mathlib.Core.Bool.{cond}
 use mathlib.Core.List.{List}
 use lib.ListN.{length, take}
 use lib.Ieee.{Float}
-use Rattle.tolerance.specs.declared.Tolerance.{Tolerance}
+use Rattle.settings.specs.declared.tolerance.Tolerance.{Tolerance}
 use Rattle.fov_sweep.specs.Sweep.{sweepOf, sweepFits, listFits}
 use Rattle.fov_sweep.specs.declared.Swept.{Swept}
 use Rattle.fov_sweep.specs.declared.Swept.the-variants.{Values, Refused}

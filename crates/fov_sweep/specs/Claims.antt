@@ -4,7 +4,7 @@ use Prim.Native.Nat.{ℕ, _≤_, _<_}
 use mathlib.Core.List.{List}
 use lib.ListN.{length}
 use lib.Ieee.{Float}
-use Rattle.tolerance.specs.declared.Tolerance.{Tolerance}
+use Rattle.settings.specs.declared.tolerance.Tolerance.{Tolerance}
 use Rattle.fov_sweep.specs.Sweep.{sweepOf, sweptOf, laterOf}
 use Rattle.fov_sweep.specs.Answers.{sweptSays, sweeping}
 

@@ -6,11 +6,11 @@ use lib.Dec.{leb}
 use lib.ListN.{length, drop}
 use lib.Ieee.{Float, binary32, add, sub, lt, le}
 use lib.Ieee.Scale.{finite}
-use Rattle.float_order.specs.Value.{zero32, pi32}
-use Rattle.float_order.specs.Choice.{smaller}
-use Rattle.tolerance.specs.Tolerances.{optionFits}
-use Rattle.tolerance.specs.declared.Tolerance.{Tolerance}
-use Rattle.tolerance.specs.declared.Tolerance.the-variants.{Given, Absent}
+use Rattle.numeric.specs.Value.{zero32, pi32}
+use Rattle.numeric.specs.MinMax.{smaller}
+use Rattle.settings.specs.Tolerance.{optionFits}
+use Rattle.settings.specs.declared.tolerance.Tolerance.{Tolerance}
+use Rattle.settings.specs.declared.tolerance.Tolerance.the-variants.{Given, Absent}
 use Rattle.fov_sweep.specs.declared.Swept.{Swept}
 use Rattle.fov_sweep.specs.declared.Swept.the-variants.{Values, Refused}
 

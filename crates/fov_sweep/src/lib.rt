@@ -6,7 +6,7 @@ ghost use lib.ListN.{length, take, drop};
 ghost use Rattle.fov_sweep.specs.Sweep.{sweepFits, pairAt, pairsFrom, sweptOf, laterOf};
 ghost use Rattle.fov_sweep.specs.Reach.{reachOf};
 ghost use Rattle.fov_sweep.specs.Answers.{sweptSays, sweeping};
-use tolerance::Tolerance;
+use settings::tolerance::Tolerance;
 
 // The f32 nearest to pi, bits 40490FDB.
 const PI: f32 = 3.1415927;
@@ -27,13 +27,13 @@ fn sweep_fits(estimate: f32, error: Tolerance, step: f32) -> bool
     if !(estimate < PI) {
         return false;
     }
-    if !float::is_finite(step) {
+    if !numeric::magnitude::is_finite(step) {
         return false;
     }
     if !(0.0 < step) {
         return false;
     }
-    tolerance::option_fits(error)
+    settings::tolerance::option_fits(error)
 }
 
 // How far the sweep goes to either side: the error cut to pi, 0 where it is absent or not above 0.
@@ -46,7 +46,7 @@ fn reach_of(error: Tolerance) -> f32
     if !(0.0 < x) {
         return 0.0;
     }
-    float_order::smaller(x, PI)
+    numeric::min_max::smaller(x, PI)
 }
 
 // How many values an offset gives: 2, or 1 where the difference is not above 0.

@@ -6,16 +6,20 @@ fn show(name: &[u8], x: u32, r: f32) {
     io::write_all(STDOUT_FILENO, name);
     io::print_hex(STDOUT_FILENO, x as u64, 8);
     io::write_all(STDOUT_FILENO, b" is ");
-    io::print_hex(STDOUT_FILENO, float_bits::to_bits(r) as u64, 8);
+    io::print_hex(STDOUT_FILENO, numeric::bits::to_bits(r) as u64, 8);
     io::write_all(STDOUT_FILENO, b"\n");
 }
 
 fn root(x: u32) {
-    show(b"root of ", x, square_root::sqrt(float_bits::from_bits(x)));
+    show(
+        b"root of ",
+        x,
+        square_root::sqrt(numeric::bits::from_bits(x)),
+    );
 }
 
 fn arcsine(x: u32) {
-    show(b"arc of ", x, arc::arc(float_bits::from_bits(x)));
+    show(b"arc of ", x, arc::arc(numeric::bits::from_bits(x)));
 }
 
 fn main() {

@@ -4,11 +4,11 @@ use libc::STDOUT_FILENO;
 use pattern_search::Answer;
 use pattern_search::Searched;
 use search_feed::SearchConfig;
-use tolerance::Tolerance;
-use undivided_run::Cap;
-use undivided_run::Phase;
-use undivided_run::State;
-use undivided_run::Status;
+use settings::tolerance::Tolerance;
+use undivided_run::state::Cap;
+use undivided_run::state::Phase;
+use undivided_run::state::State;
+use undivided_run::state::Status;
 
 // A status by its name.
 fn status(s: Status) {

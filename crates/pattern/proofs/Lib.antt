@@ -1,2 +1,10 @@
-pub mod Same
-pub mod Edges
+pub mod Insertion
+pub mod Sorting
+pub mod Carried
+pub mod PositiveFloats
+pub mod ListsEqual
+pub mod EdgesLaws
+pub mod Hash
+pub mod Keys
+pub mod Positions
+pub mod CentroidOrder

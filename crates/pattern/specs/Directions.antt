@@ -4,7 +4,7 @@ use mathlib.Core.List.{List, []}
 use lib.IntN.{pos}
 use lib.ListN.{getD}
 use lib.Ieee.{Float, nan, fin}
-use Rattle.float_order.specs.Interval.{In}
+use Rattle.numeric.specs.Interval.{In}
 
 -- a component: finite, and of magnitude at most 2 ^ 20. A star's is at most 1 (question 9), and so is a unit vector's but for its rounding.
 abbrev pub Small : Float → Type 0

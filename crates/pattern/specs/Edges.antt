@@ -3,11 +3,11 @@ use mathlib.Core.Bool.{cond}
 use mathlib.Core.List.{List, [], _∷_}
 use lib.ListN.{getD}
 use lib.Ieee.{Float, nan, binary32, add, sub, mul, div, lt}
-use Rattle.float_order.specs.Value.{zero32, one32, two32, half32}
+use Rattle.numeric.specs.Value.{zero32, one32, two32, half32}
 use Rattle.square_root.specs.Root.{rootOf}
 use Rattle.arc.specs.Arc.{arcOf}
-use Rattle.float_order.specs.Choice.{smaller}
-use Rattle.edge_order.specs.Sort.{sorted}
+use Rattle.numeric.specs.MinMax.{smaller}
+use Rattle.pattern.specs.Sort.{sorted}
 
 -- "The source's powi(2) is read as a product of the value with itself."
 abbrev pub squared : Float → Float
@@ -48,8 +48,8 @@ unfoldable pub edgesOf : List (List Float) → List Float
 edgesOf v = sorted lt (angles v)
 
 -- "each ratio is one division of an edge by the largest"
-unfoldable pub shares : List Float → List Float
-shares e =
+unfoldable pub dividedByLargest : List Float → List Float
+dividedByLargest e =
     div binary32 (getD e 0 nan) (getD e 5 nan)
     ∷ div binary32 (getD e 1 nan) (getD e 5 nan)
     ∷ div binary32 (getD e 2 nan) (getD e 5 nan)
@@ -58,9 +58,9 @@ shares e =
     ∷ []
 
 -- five ratios that are 0
-abbrev pub noughts : List Float
-noughts = zero32 ∷ zero32 ∷ zero32 ∷ zero32 ∷ zero32 ∷ []
+abbrev pub zeroRatios : List Float
+zeroRatios = zero32 ∷ zero32 ∷ zero32 ∷ zero32 ∷ zero32 ∷ []
 
 -- "A largest edge not above 0 makes all five ratios 0."
 unfoldable pub ratiosOf : List Float → List Float
-ratiosOf e = cond (lt zero32 (getD e 5 nan)) (shares e) noughts
+ratiosOf e = cond (lt zero32 (getD e 5 nan)) (dividedByLargest e) zeroRatios

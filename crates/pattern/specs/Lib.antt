@@ -1,3 +1,9 @@
+pub mod Sort
+pub mod Carried
 pub mod Edges
 pub mod Directions
-pub mod Claims
+pub mod EdgesClaims
+pub mod Key
+pub mod KeyClaims
+pub mod CentroidOrder
+pub mod CentroidOrderClaims

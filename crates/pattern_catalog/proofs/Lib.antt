@@ -1,2 +1,4 @@
-pub mod Slots
+pub mod CountOnes
+pub mod SlotPlace
+pub mod SlotRead
 pub mod Parts

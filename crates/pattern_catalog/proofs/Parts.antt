@@ -3,13 +3,13 @@ use Prim.Native.Nat.{ℕ}
 use mathlib.Core.Path.{_≡_, refl, sym, ap, _∙_}
 use native.Mathlib.Omega.{arith}
 use lib.ListN.{length}
-use Rattle.table_blocks.specs.Blocks.{place}
+use Rattle.pattern_catalog.specs.Blocks.{place}
 use Rattle.pattern_entry.specs.Entry.{bytesAt}
 use Rattle.pattern_catalog.specs.SlotRead.{slotRead, sectionPart}
 use Rattle.pattern_catalog.specs.Claims.{SlotSaysOnce, PartFilled, PartEmpty}
-use Rattle.pattern_catalog.specs.declared.Slot.{Slot}
+use Rattle.pattern_catalog.specs.declared.slot_read.Slot.{Slot}
 use Rattle.pattern_entry.proofs.Bytes.{whole-at}
-use Rattle.pattern_catalog.proofs.Slots.{read-place}
+use Rattle.pattern_catalog.proofs.SlotRead.{read-place}
 
 pub slot-says-once : SlotSaysOnce
 slot-says-once words s Slot.Filled Slot.Filled h = refl

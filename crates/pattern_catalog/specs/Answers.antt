@@ -1,9 +1,9 @@
 -- The answers in document 01's words, and what each case of an enum says. Definitions only.
 use Prim.Native.Nat.{ℕ}
 use mathlib.Core.List.{List}
-use Rattle.table_blocks.specs.Blocks.{place}
-use Rattle.pattern_catalog.specs.declared.Found.{Found}
-use Rattle.pattern_catalog.specs.declared.Slot.{Slot}
+use Rattle.pattern_catalog.specs.Blocks.{place}
+use Rattle.pattern_catalog.specs.declared.slot_read.Found.{Found}
+use Rattle.pattern_catalog.specs.declared.slot_read.Slot.{Slot}
 
 -- A slot read finds the slot filled, with its entry at this place of the packed section; or empty; or is refused with this question's number.
 pub data Answer : Type 0 where

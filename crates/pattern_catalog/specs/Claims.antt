@@ -3,11 +3,11 @@ use Prim.Native.Nat.{ℕ}
 use mathlib.Core.Path.{_≡_}
 use mathlib.Core.List.{List, []}
 use lib.ListN.{length}
-use Rattle.table_blocks.specs.Blocks.{place}
+use Rattle.pattern_catalog.specs.Blocks.{place}
 use Rattle.pattern_entry.specs.Entry.{bytesAt}
 use Rattle.pattern_catalog.specs.Answers.{slotSays}
 use Rattle.pattern_catalog.specs.SlotRead.{slotRead, sectionPart}
-use Rattle.pattern_catalog.specs.declared.Slot.{Slot}
+use Rattle.pattern_catalog.specs.declared.slot_read.Slot.{Slot}
 
 -- ---- the slot read's two calls, proofs/Parts
 

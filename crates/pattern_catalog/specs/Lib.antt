@@ -1,4 +1,6 @@
+pub mod Blocks
+pub mod Rank
 pub mod Answers
-pub mod Placed
+pub mod SlotPlace
 pub mod SlotRead
 pub mod Claims

@@ -3,8 +3,8 @@ use Prim.Native.Nat.{ℕ, _*_}
 use mathlib.Core.Bool.{cond}
 use mathlib.Core.List.{List, []}
 use lib.Dec.{ltb}
-use Rattle.star_slice.specs.Ask.{ask}
-use Rattle.table_blocks.specs.Blocks.{tableFits, filled, place}
+use Rattle.pattern_entry.specs.FirstNo.{ask}
+use Rattle.pattern_catalog.specs.Blocks.{tableFits, filled, place}
 use Rattle.pattern_entry.specs.Entry.{bytesAt, inSection}
 use Rattle.pattern_catalog.specs.Answers.{Answer, filledAt, empty, refused}
 

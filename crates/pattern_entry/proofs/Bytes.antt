@@ -8,7 +8,7 @@ use lib.ListN.{length, getD, take, drop, length-take, length-drop}
 use lib.Seq.{getD-take, getD-drop}
 use lib.Ieee.{Float}
 use Rattle.pattern_entry.specs.Entry.{bytesAt, halfAt, markIn, star}
-use Rattle.pattern_entry.specs.declared.PatternEntry.{PatternEntry}
+use Rattle.pattern_entry.specs.declared.entry.PatternEntry.{PatternEntry}
 
 -- a byte past the end
 pub past-end : (s : List ℕ) (i : ℕ) → length s ≤ i → getD s i 0 ≡ 0

@@ -6,9 +6,9 @@ use mathlib.Core.List.{List, [], _∷_}
 use lib.Dec.{leb}
 use lib.ListN.{length, getD, take, drop}
 use lib.Ieee.{binary32, ofBits}
-use Rattle.float_bits.specs.Bytes.{wordOf}
-use Rattle.star_slice.specs.declared.StarIndex.{StarIndex}
-use Rattle.pattern_entry.specs.declared.PatternEntry.{PatternEntry}
+use Rattle.numeric.specs.Bytes.{wordOf}
+use Rattle.pattern_entry.specs.declared.stars.StarIndex.{StarIndex}
+use Rattle.pattern_entry.specs.declared.entry.PatternEntry.{PatternEntry}
 
 -- the 22 bytes of the entry at a place of the packed section; fewer where the section ends before
 unfoldable pub bytesAt : List ℕ → ℕ → List ℕ

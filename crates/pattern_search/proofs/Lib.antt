@@ -1,6 +1,6 @@
-pub mod Saying
-pub mod Turning
-pub mod Passing
+pub mod Answers
+pub mod Iterating
+pub mod SkippedReads
 pub mod Calling
-pub mod Listed
+pub mod Demand3
 pub mod Run

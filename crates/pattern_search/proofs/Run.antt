@@ -6,28 +6,28 @@ use mathlib.Core.Bool.{Bool, true, false, cond}
 use mathlib.Core.List.{List}
 use mathlib.Core.Option.{none, some}
 use lib.Ieee.{Float}
-use Rattle.table_blocks.specs.Blocks.{filled, place}
+use Rattle.pattern_catalog.specs.Blocks.{filled, place}
 use Rattle.pattern_entry.specs.Entry.{bytesAt}
-use Rattle.candidates.specs.declared.Candidate.{Candidate}
-use Rattle.candidates.specs.declared.Tested.{Tested}
-use Rattle.candidates.specs.declared.Tested.the-variants.{Over, Hit}
+use Rattle.candidates.specs.declared.entry_tests.Candidate.{Candidate}
+use Rattle.candidates.specs.declared.entry_tests.Tested.{Tested}
+use Rattle.candidates.specs.declared.entry_tests.Tested.the-variants.{PassedOver, Hit}
 use Rattle.candidates.proofs.Hits.{hit-exactly}
-use Rattle.undivided_run.specs.declared.Position.{Position}
-use Rattle.undivided_run.specs.declared.Cap.{Cap}
+use Rattle.undivided_run.specs.declared.state.Position.{Position}
+use Rattle.undivided_run.specs.declared.state.Cap.{Cap}
 use Rattle.undivided_run.specs.Undivided.{cases, gives, slotOf, undivided}
 use Rattle.undivided_run.specs.Calls.{candidates}
-use Rattle.run_claims.specs.Tried.{Begins}
-use Rattle.run_claims.proofs.Tried.{run-tries}
-use Rattle.run_claims.proofs.Closed.{candidates-begin}
+use Rattle.undivided_run.specs.Tried.{Begins}
+use Rattle.undivided_run.proofs.Tried.{run-tries}
+use Rattle.undivided_run.proofs.Closed.{candidates-begin}
 use Rattle.search_feed.specs.Data.{Data}
 use Rattle.search_feed.specs.Image.{keysIn, hashIn, keptPlaces, directionsOf}
 use Rattle.search_feed.specs.Feed.{feed, entryAt, slotAt, testedAt, ifHit, candidateOf, placesOf}
-use Rattle.search_feed.proofs.Limits.{every-four-keyed}
-use Rattle.pattern_search.specs.Claims.{EveryFourTried, Gives, GivesExactly, dataWith, fullList, HigherCapBegins}
-use Rattle.search_questions.proofs.Asking.{seven-asked}
+use Rattle.search_feed.proofs.WithinLimits.{every-combination-keyed}
+use Rattle.pattern_search.specs.Claims.{EveryCombinationTried, Gives, GivesExactly, dataWith, fullList, HigherCapBegins}
+use Rattle.search_questions.proofs.Questions1To7.{seven-asked}
 
-pub every-four-tried : EveryFourTried
-every-four-tried D s = run-tries (feed D) (every-four-keyed D (seven-asked _ _ _ _ s)) (D .frame .config .cap)
+pub every-combination-tried : EveryCombinationTried
+every-combination-tried D s = run-tries (feed D) (every-combination-keyed D (seven-asked _ _ _ _ s)) (D .frame .config .cap)
 
 module _ (D : Data) (r : Position) (x : Candidate) where
   abbrev e : List ℕ
@@ -44,7 +44,7 @@ module _ (D : Data) (r : Position) (x : Candidate) where
 
   from-hit : (b : Bool) (t : Tested) → cond b (ifHit D r e t) none ≡ some x → (b ≡ true) × (f : Float) × (t ≡ Hit f) × (x ≡ candidateOf D r e f)
   from-hit false t h = absurd (let z : _≡_ {A = ℕ} 0 1 = cc in omega arith)
-  from-hit true Over h = absurd (let z : _≡_ {A = ℕ} 0 1 = cc in omega arith)
+  from-hit true PassedOver h = absurd (let z : _≡_ {A = ℕ} 0 1 = cc in omega arith)
   from-hit true (Hit f) h = (refl, f, refl, cc)
 
   exactly-to : gives (feed D) r ≡ some x → Gives D r x

@@ -2,8 +2,8 @@
 use Prim.Native.Nat.{ℕ}
 use mathlib.Core.List.{List}
 use Rattle.candidates.specs.NoCandidate.{noCandidate}
-use Rattle.candidates.specs.declared.Candidate.{Candidate}
-use Rattle.undivided_run.specs.declared.State.{State}
+use Rattle.candidates.specs.declared.entry_tests.Candidate.{Candidate}
+use Rattle.undivided_run.specs.declared.state.State.{State}
 use Rattle.undivided_run.specs.Calls.{Answer, candidate, used, over, refused}
 use Rattle.undivided_run.specs.Step.{Lent}
 use Rattle.search_feed.specs.Data.{Data}

@@ -6,19 +6,19 @@ use mathlib.Core.Bool.{true}
 use mathlib.Core.List.{List}
 use mathlib.Core.Option.{none, some}
 use lib.Ieee.{Float}
-use Rattle.key_hash.specs.Key.{markOf}
+use Rattle.pattern.specs.Key.{markOf}
 use Rattle.pattern.specs.Edges.{edgesOf}
-use Rattle.table_blocks.specs.Blocks.{filled, place}
+use Rattle.pattern_catalog.specs.Blocks.{filled, place}
 use Rattle.pattern_entry.specs.Entry.{bytesAt, entryRead}
-use Rattle.star_directions.specs.Directions.{starsOf}
-use Rattle.candidates.specs.Tests.{measuredOf}
+use Rattle.candidates.specs.StarVectors.{starsOf}
+use Rattle.candidates.specs.EntryTests.{measuredOf}
 use Rattle.candidates.specs.Claims.{Agrees}
-use Rattle.candidates.specs.declared.Candidate.{Candidate}
-use Rattle.undivided_run.specs.declared.Position.{Position}
-use Rattle.undivided_run.specs.declared.Cap.{Cap}
+use Rattle.candidates.specs.declared.entry_tests.Candidate.{Candidate}
+use Rattle.undivided_run.specs.declared.state.Position.{Position}
+use Rattle.undivided_run.specs.declared.state.Cap.{Cap}
 use Rattle.undivided_run.specs.Undivided.{gives, undivided}
 use Rattle.undivided_run.specs.Calls.{candidates}
-use Rattle.run_claims.specs.Tried.{triedIn, capped, allFours, Begins, NoHigher}
+use Rattle.undivided_run.specs.Tried.{triedIn, capped, allCombinations, Begins, NoHigher}
 use Rattle.search_feed.specs.Data.{Frame, Data}
 use Rattle.search_feed.specs.Image.{toleranceIn, passOf, imageAt}
 use Rattle.search_feed.specs.Feed.{feed, slotAt, hashOfRead, candidateOf}
@@ -26,10 +26,10 @@ use Rattle.search_feed.specs.declared.SearchConfig.{SearchConfig}
 use Rattle.search_questions.specs.Questions.{firstSeven}
 
 -- "each pass tries every four of its kept centroids once, by sum of positions in the kept list and then lexicographically, until the cap stops the search":
--- `every-four-tried`. `allFours` lists no combination where there is no slot or no pattern; `fours-all` and `fours-once` of combinations say "every" and "once".
-abbrev pub EveryFourTried : Type 0
-EveryFourTried = (D : Data) → firstSeven (D .frame) (D .slots) (D .words) (D .stars) ≡ none
-    → triedIn ((undivided (feed D) (D .frame .config .cap)) .reads) ≡ capped (D .frame .config .cap) (allFours (feed D))
+-- `every-combination-tried`. `allCombinations` lists no combination where there is no slot or no pattern; `combinations-all` and `combinations-once` of combinations say "every" and "once".
+abbrev pub EveryCombinationTried : Type 0
+EveryCombinationTried = (D : Data) → firstSeven (D .frame) (D .slots) (D .words) (D .stars) ≡ none
+    → triedIn ((undivided (feed D) (D .frame .config .cap)) .reads) ≡ capped (D .frame .config .cap) (allCombinations (feed D))
 
 -- "A read gives a candidate exactly when its slot is filled, its 16-bit mark agrees, all five ratios lie strictly inside the tolerance and both field-of-view tests pass."
 -- The candidate carries the field of view measured then: `gives-exactly`.

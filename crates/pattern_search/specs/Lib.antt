@@ -1,4 +1,4 @@
 pub mod Answers
-pub mod Turns
-pub mod Listed
+pub mod Iteration
+pub mod Demand3
 pub mod Claims

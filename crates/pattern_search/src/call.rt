@@ -1,30 +1,30 @@
-// A call: the questions, the first read, and a loop of turns.
+// A call: the questions, the first read, and a loop of iterations.
 ghost use mathlib.Core.Path.{_≡_};
 ghost use Prim.Native.Nat.{_≤_};
 ghost use lib.ListN.{length};
 ghost use mathlib.Core.Option.{none};
 ghost use Rattle.undivided_run.specs.Step.{zeroCall, searchCall};
-ghost use Rattle.undivided_run.specs.Good.{goesOn};
+ghost use Rattle.undivided_run.specs.CallInvariant.{goesOn};
 ghost use Rattle.search_feed.specs.Data.{frameOf, dataOf};
 ghost use Rattle.search_feed.specs.Feed.{feed};
 ghost use Rattle.search_questions.specs.Questions.{firstSeven};
 ghost use Rattle.pattern_search.specs.Answers.{searched, replySays};
-ghost use Rattle.pattern_search.specs.Turns.{Ready};
-ghost use Rattle.pattern_search.specs.Listed.{lentBy, returned};
+ghost use Rattle.pattern_search.specs.Iteration.{Ready};
+ghost use Rattle.pattern_search.specs.Demand3.{lentBy, returned};
 use crate::Answer;
 use crate::Searched;
+use crate::reading::iterate;
 use crate::reading::plain;
-use crate::reading::turn;
-use known_stars::Known;
-use search_desk::Held;
+use fast_path::valid_stars::ValidStars;
+use search_cache::pass::Cache;
 use search_feed::SearchConfig;
-use search_questions::Asked;
-use undivided_run::Next;
-use undivided_run::Phase;
-use undivided_run::State;
-use undivided_run::Walk;
+use search_questions::questions_1_to_7::Questions1To7;
+use undivided_run::state::Cursor;
+use undivided_run::state::Next;
+use undivided_run::state::Phase;
+use undivided_run::state::State;
 
-// Turn after turn, until a reply.
+// Iteration after iteration, until a reply.
 fn run(
     centroids: &[f32],
     order: &[u32],
@@ -36,26 +36,26 @@ fn run(
     stars: &[f32],
     st: State,
     allowance: u64,
-    walk: Walk,
-    held: Held,
+    cursor: Cursor,
+    cached: Cache,
     places: &mut [u32; 64],
-    measures: &mut [f32; 2208],
+    geometry: &mut [f32; 2208],
     hashes: &mut [u64; 1024],
 ) -> Searched
-    requires { ⌜ Ready (dataOf (frameOf (now centroids) (now order) config (now passes)) slots (now words) (now packed) (now stars)) walk held (now places) (now measures) (now hashes) × (length (now stars) ≤ 3145728) ⌝ }
-    ensures { λ r. ⌜ r ≡ searched (goesOn (feed (dataOf (frameOf (now (centroids .entry)) (now (order .entry)) config (now (passes .entry))) slots (now (words .entry)) (now (packed .entry)) (now (stars .entry)))) (config .cap) st allowance walk) ⌝ }
+    requires { ⌜ Ready (dataOf (frameOf (now centroids) (now order) config (now passes)) slots (now words) (now packed) (now stars)) cursor cached (now places) (now geometry) (now hashes) × (length (now stars) ≤ 3145728) ⌝ }
+    ensures { λ r. ⌜ r ≡ searched (goesOn (feed (dataOf (frameOf (now (centroids .entry)) (now (order .entry)) config (now (passes .entry))) slots (now (words .entry)) (now (packed .entry)) (now (stars .entry)))) (config .cap) st allowance cursor) ⌝ }
 {
-    let mut w = walk;
-    let mut h = held;
+    let mut w = cursor;
+    let mut h = cached;
     let mut a = allowance;
-    let mut known = Known {
+    let mut known = ValidStars {
         asked: false,
-        sound: 0,
+        valid: 0,
     };
     loop {
-        let k = known_stars::ask_stars(stars, known, allowance - a);
+        let k = fast_path::valid_stars::validate_stars(stars, known, allowance - a);
         known = k;
-        let u = turn(
+        let u = iterate(
             centroids,
             order,
             config,
@@ -64,18 +64,18 @@ fn run(
             words,
             packed,
             stars,
-            k.sound,
+            k.valid,
             st,
             a,
             w,
             h,
             places,
-            measures,
+            geometry,
             hashes,
         );
         if u.more {
-            let v = u.walk;
-            let g = u.held;
+            let v = u.cursor;
+            let g = u.cached;
             w = v;
             h = g;
             a = u.left;
@@ -87,7 +87,7 @@ fn run(
 }
 
 // A call with no allowance: ended where no read is left, else nothing changes.
-fn wait(st: State, next: Next) -> Searched
+fn zero_call(st: State, next: Next) -> Searched
     ensures { λ r. ⌜ r ≡ searched (zeroCall st next) ⌝ }
 {
     match next {
@@ -111,7 +111,7 @@ fn no_places() -> [u32; 64]
 }
 
 // Room for their directions and angles.
-fn no_measures() -> [f32; 2208]
+fn no_geometry() -> [f32; 2208]
     ensures { λ r. ⌜ length r ≡ 2208 ⌝ }
 {
     [0.0f32; 2208]
@@ -141,41 +141,41 @@ fn go(
     ensures { λ r. ⌜ r ≡ returned st (record { data-of = dataOf (frameOf (now (centroids .entry)) (now (order .entry)) config (now (passes .entry))) slots (now (words .entry)) (now (packed .entry)) (now (stars .entry)); allowance = allowance }) ⌝ }
 {
     let mut places = no_places();
-    let mut measures = no_measures();
+    let mut geometry = no_geometry();
     let mut hashes = no_hashes();
-    let eight = eighth_question::eighth(
+    let eight = search_questions::question_8::state_fits(
         centroids,
         order,
         config,
         passes,
         slots,
-        search_desk::nothing_held(),
+        search_cache::pass::empty_cache(),
         st,
         &mut places,
-        &mut measures,
+        &mut geometry,
         &mut hashes,
     );
     if !eight.fits {
         return plain(Answer::Refused(8), st);
     }
-    let desk = eight.held;
-    let first = call_begins::begin(
+    let current = eight.cached;
+    let first = search_step::call_start::start_call(
         centroids,
         order,
         config,
         passes,
         slots,
         st,
-        desk,
+        current,
         &mut places,
-        &mut measures,
+        &mut geometry,
     );
     let next = first.next;
     if allowance == 0 {
-        return wait(st, next);
+        return zero_call(st, next);
     }
-    let laid = first.held;
-    let walk = Walk {
+    let loaded = first.cached;
+    let cursor = Cursor {
         next,
         patterns: st.patterns,
         reads: st.reads,
@@ -191,10 +191,10 @@ fn go(
         stars,
         st,
         allowance,
-        walk,
-        laid,
+        cursor,
+        loaded,
         &mut places,
-        &mut measures,
+        &mut geometry,
         &mut hashes,
     )
 }
@@ -215,9 +215,17 @@ pub fn search(
     ensures { λ r. ⌜ r ≡ returned state (record { data-of = dataOf (frameOf (now (centroids .entry)) (now (order .entry)) config (now (passes .entry))) slots (now (words .entry)) (now (packed .entry)) (now (stars .entry)); allowance = allowance }) ⌝ }
     ensures { λ r. ⌜ replySays r ≡ searchCall state (lentBy (record { data-of = dataOf (frameOf (now (centroids .entry)) (now (order .entry)) config (now (passes .entry))) slots (now (words .entry)) (now (packed .entry)) (now (stars .entry)); allowance = allowance })) ⌝ }
 {
-    match search_questions::first_seven(centroids, order, config, passes, slots, words, stars) {
-        Asked::No(k) => plain(Answer::Refused(k), state),
-        Asked::Clear => go(
+    match search_questions::questions_1_to_7::first_seven(
+        centroids,
+        order,
+        config,
+        passes,
+        slots,
+        words,
+        stars,
+    ) {
+        Questions1To7::No(k) => plain(Answer::Refused(k), state),
+        Questions1To7::Clear => go(
             centroids,
             order,
             config,

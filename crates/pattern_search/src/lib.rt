@@ -3,11 +3,11 @@ mod call;
 mod reading;
 
 pub use crate::call::search;
-use candidates::Candidate;
-use search_desk::Held;
-use undivided_run::State;
-use undivided_run::Status;
-use undivided_run::Walk;
+use candidates::entry_tests::Candidate;
+use search_cache::pass::Cache;
+use undivided_run::state::Cursor;
+use undivided_run::state::State;
+use undivided_run::state::Status;
 
 // What a call answers. The candidate stands beside it.
 pub enum Answer {
@@ -24,11 +24,11 @@ pub struct Searched {
     pub state: State,
 }
 
-// What a turn gives: the call's reply, or the walk, the desk and the allowance to go on with.
-pub struct Turn {
+// What an iteration gives: the call's reply, or the cursor, the cache and the allowance to go on with.
+pub struct Iteration {
     pub more: bool,
     pub reply: Searched,
-    pub walk: Walk,
-    pub held: Held,
+    pub cursor: Cursor,
+    pub cached: Cache,
     pub left: u64,
 }

@@ -1,29 +1,29 @@
-// One turn of a call: the reads that give nothing gone over, then a read and what it makes of the call.
+// One iteration of a call: the reads that give nothing gone over, then a read and what it makes of the call.
 ghost use mathlib.Core.Path.{_≡_};
 ghost use Prim.Native.Nat.{_+_, _-_, _≤_, _<_};
 ghost use Rattle.search_feed.specs.Data.{frameOf, dataOf};
 ghost use Rattle.candidates.specs.NoCandidate.{noCandidate};
-ghost use Rattle.search_desk.specs.Desk.{ForPass, ForFour};
-ghost use Rattle.known_stars.specs.Asked.{SoundBelow};
-ghost use Rattle.pattern_search.specs.Turns.{stopping, goingOn, refusesOf, sawEntry, toldOf, passedOf, Ready, Turned};
+ghost use Rattle.search_cache.specs.Cache.{LoadedPass, LoadedCombination};
+ghost use Rattle.fast_path.specs.ValidStars.{ValidBelow};
+ghost use Rattle.pattern_search.specs.Iteration.{stopping, goingOn, refusesOf, sawEntry, iterationAfter, cursorAfterSkip, Ready, Iterated};
 use crate::Answer;
+use crate::Iteration;
 use crate::Searched;
-use crate::Turn;
-use quiet_reads::Stand;
-use search_desk::Held;
+use fast_path::skip_reads::SkipResult;
+use search_cache::pass::Cache;
+use search_feed::ReadOutcome;
+use search_feed::ReadResult;
 use search_feed::SearchConfig;
-use search_feed::Seen;
-use search_feed::Sight;
-use undivided_run::Next;
-use undivided_run::Position;
-use undivided_run::State;
-use undivided_run::Walk;
+use undivided_run::state::Cursor;
+use undivided_run::state::Next;
+use undivided_run::state::Position;
+use undivided_run::state::State;
 
 // A reply without a candidate.
 pub fn plain(answer: Answer, state: State) -> Searched
     ensures { λ r. ⌜ r ≡ record { answer = answer; candidate = noCandidate; state = state } ⌝ }
 {
-    let candidate = candidates::no_candidate();
+    let candidate = candidates::entry_tests::no_candidate();
     Searched {
         answer,
         candidate,
@@ -31,64 +31,64 @@ pub fn plain(answer: Answer, state: State) -> Searched
     }
 }
 
-// A turn that ends the call.
-fn stop(reply: Searched, walk: Walk, held: Held) -> Turn
-    ensures { λ r. ⌜ r ≡ stopping reply walk held ⌝ }
+// An iteration that ends the call.
+fn stop(reply: Searched, cursor: Cursor, cached: Cache) -> Iteration
+    ensures { λ r. ⌜ r ≡ stopping reply cursor cached ⌝ }
 {
-    Turn {
+    Iteration {
         more: false,
         reply,
-        walk,
-        held,
+        cursor,
+        cached,
         left: 0,
     }
 }
 
-// A turn that goes on.
-fn go_on(walk: Walk, held: Held, st: State, left: u64) -> Turn
-    ensures { λ r. ⌜ r ≡ goingOn walk held st left ⌝ }
+// An iteration that goes on.
+fn continue_call(cursor: Cursor, cached: Cache, st: State, left: u64) -> Iteration
+    ensures { λ r. ⌜ r ≡ goingOn cursor cached st left ⌝ }
 {
     let reply = plain(Answer::AllowanceUsed, st);
-    Turn {
+    Iteration {
         more: true,
         reply,
-        walk,
-        held,
+        cursor,
+        cached,
         left,
     }
 }
 
 // Whether question 9 is answered no by what a read saw.
-fn refuses(seen: Seen) -> bool
-    ensures { λ r. ⌜ r ≡ refusesOf seen ⌝ }
+fn refuses(outcome: ReadOutcome) -> bool
+    ensures { λ r. ⌜ r ≡ refusesOf outcome ⌝ }
 {
-    match seen {
-        Seen::Unsound => true,
-        Seen::Empty => false,
-        Seen::Passed => false,
-        Seen::Found => false,
+    match outcome {
+        ReadOutcome::Invalid => true,
+        ReadOutcome::Empty => false,
+        ReadOutcome::Passed => false,
+        ReadOutcome::Found => false,
     }
 }
 
 // Whether the slot that a read saw is filled.
-fn saw_entry(seen: Seen) -> bool
-    ensures { λ r. ⌜ r ≡ sawEntry seen ⌝ }
+fn saw_entry(outcome: ReadOutcome) -> bool
+    ensures { λ r. ⌜ r ≡ sawEntry outcome ⌝ }
 {
-    match seen {
-        Seen::Empty => false,
-        Seen::Unsound => true,
-        Seen::Passed => true,
-        Seen::Found => true,
+    match outcome {
+        ReadOutcome::Empty => false,
+        ReadOutcome::Invalid => true,
+        ReadOutcome::Passed => true,
+        ReadOutcome::Found => true,
     }
 }
 
-// What a sound read makes of the call, with the walk after it: the candidate that it gave, or on to the next read.
-fn told(read: Sight, on: Walk, held: Held, st: State, left: u64) -> Turn
-    ensures { λ r. ⌜ r ≡ toldOf (read .seen) (read .candidate) on held st left ⌝ }
+// What a valid read makes of the call, with the cursor after it: the candidate that it gave, or on to the next read.
+fn iteration_after(read: ReadResult, on: Cursor, cached: Cache, st: State, left: u64) -> Iteration
+    ensures { λ r. ⌜ r ≡ iterationAfter (read .outcome) (read .candidate) on cached st left ⌝ }
 {
-    let seen = read.seen;
-    match seen {
-        Seen::Found => {
+    let outcome = read.outcome;
+    match outcome {
+        ReadOutcome::Found => {
             let candidate = read.candidate;
             let state = on.state();
             let reply = Searched {
@@ -96,33 +96,33 @@ fn told(read: Sight, on: Walk, held: Held, st: State, left: u64) -> Turn
                 candidate,
                 state,
             };
-            stop(reply, on, held)
+            stop(reply, on, cached)
         }
-        Seen::Passed => go_on(on, held, st, left),
-        Seen::Empty => go_on(on, held, st, left),
-        Seen::Unsound => go_on(on, held, st, left),
+        ReadOutcome::Passed => continue_call(on, cached, st, left),
+        ReadOutcome::Empty => continue_call(on, cached, st, left),
+        ReadOutcome::Invalid => continue_call(on, cached, st, left),
     }
 }
 
-// The walk after the reads of a combination that the fast way made.
-fn passed(walk: Walk, p: Position, s: Stand, allowance: u64) -> Walk
-    requires { ⌜ (s .left ≤ allowance) × (walk .patterns < 9223372036854775808) × (walk .reads + (allowance - s .left) ≤ 9223372036854775808) ⌝ }
-    ensures { λ r. ⌜ r ≡ passedOf walk p s allowance ⌝ }
+// The cursor after the reads of a combination that fast_path skipped.
+fn after_skip(cursor: Cursor, p: Position, s: SkipResult, allowance: u64) -> Cursor
+    requires { ⌜ (s .left ≤ allowance) × (cursor .patterns < 9223372036854775808) × (cursor .reads + (allowance - s .left) ≤ 9223372036854775808) ⌝ }
+    ensures { λ r. ⌜ r ≡ cursorAfterSkip cursor p s allowance ⌝ }
 {
     if s.left == allowance {
-        return walk;
+        return cursor;
     }
-    let n = p.count(walk.patterns);
-    let to = p.moved(s.key, s.probe);
-    Walk {
+    let n = p.count(cursor.patterns);
+    let to = p.at_key(s.key, s.probe);
+    Cursor {
         next: Next::Goes(to),
         patterns: n,
-        reads: walk.reads + (allowance - s.left),
+        reads: cursor.reads + (allowance - s.left),
     }
 }
 
-// One read, the desk laid for it, and what it makes of the call.
-fn read_turn(
+// One read, the cache loaded for it, and what it makes of the call.
+fn single_read(
     centroids: &[f32],
     order: &[u32],
     config: SearchConfig,
@@ -133,19 +133,19 @@ fn read_turn(
     stars: &[f32],
     st: State,
     allowance: u64,
-    walk: Walk,
-    desk: Held,
+    cursor: Cursor,
+    current: Cache,
     p: Position,
     places: &mut [u32; 64],
-    measures: &mut [f32; 2208],
+    geometry: &mut [f32; 2208],
     hashes: &[u64; 1024],
-) -> Turn
-    requires { ⌜ Ready (dataOf (frameOf (now centroids) (now order) config (now passes)) slots (now words) (now packed) (now stars)) walk desk (now places) (now measures) (now hashes) × (walk .next ≡ Next.Goes p) × ForPass (frameOf (now centroids) (now order) config (now passes)) (p .pass) desk (now places) (now measures) × ForFour (frameOf (now centroids) (now order) config (now passes)) (p .pass) (p .four) desk (now hashes) × (0 < allowance) ⌝ }
-    ensures { λ r. ⌜ Turned (dataOf (frameOf (now (centroids .entry)) (now (order .entry)) config (now (passes .entry))) slots (now (words .entry)) (now (packed .entry)) (now (stars .entry))) st allowance walk (now (places .exit)) (now (measures .exit)) (now (hashes .entry)) r ⌝ }
+) -> Iteration
+    requires { ⌜ Ready (dataOf (frameOf (now centroids) (now order) config (now passes)) slots (now words) (now packed) (now stars)) cursor current (now places) (now geometry) (now hashes) × (cursor .next ≡ Next.Goes p) × LoadedPass (frameOf (now centroids) (now order) config (now passes)) (p .pass) current (now places) (now geometry) × LoadedCombination (frameOf (now centroids) (now order) config (now passes)) (p .pass) (p .four) current (now hashes) × (0 < allowance) ⌝ }
+    ensures { λ r. ⌜ Iterated (dataOf (frameOf (now (centroids .entry)) (now (order .entry)) config (now (passes .entry))) slots (now (words .entry)) (now (packed .entry)) (now (stars .entry))) st allowance cursor (now (places .exit)) (now (geometry .exit)) (now (hashes .entry)) r ⌝ }
 {
-    let field = passes::pass_at(passes, p.pass).field;
-    let image = desk.image;
-    let read = search_feed::look(
+    let field = settings::passes::pass_at(passes, p.pass).field;
+    let image = current.image;
+    let read = search_feed::read_slot(
         p,
         image,
         &*places,
@@ -157,31 +157,31 @@ fn read_turn(
         packed,
         stars,
     );
-    let seen = read.seen;
-    if refuses(seen) {
+    let outcome = read.outcome;
+    if refuses(outcome) {
         let reply = plain(Answer::Refused(9), st);
-        return stop(reply, walk, desk);
+        return stop(reply, cursor, current);
     }
-    let s = search_steps::step(
+    let s = search_step::step::step(
         centroids,
         order,
         config,
         passes,
         slots,
-        desk,
+        current,
         p,
-        saw_entry(seen),
-        walk,
+        saw_entry(outcome),
+        cursor,
         places,
-        measures,
+        geometry,
     );
-    let on = s.walk;
-    let left = s.held;
-    told(read, on, left, st, allowance - 1)
+    let on = s.cursor;
+    let after = s.cached;
+    iteration_after(read, on, after, st, allowance - 1)
 }
 
 // Over the reads of the combination at hand that give nothing, then the read that they lead to, if the allowance has one left.
-fn read_on(
+fn skip_then_read(
     centroids: &[f32],
     order: &[u32],
     config: SearchConfig,
@@ -190,49 +190,49 @@ fn read_on(
     words: &[u64],
     packed: &[u8],
     stars: &[f32],
-    sound: u32,
+    valid: u32,
     st: State,
     allowance: u64,
-    walk: Walk,
-    held: Held,
+    cursor: Cursor,
+    cached: Cache,
     p: Position,
     places: &mut [u32; 64],
-    measures: &mut [f32; 2208],
+    geometry: &mut [f32; 2208],
     hashes: &mut [u64; 1024],
-) -> Turn
-    requires { ⌜ Ready (dataOf (frameOf (now centroids) (now order) config (now passes)) slots (now words) (now packed) (now stars)) walk held (now places) (now measures) (now hashes) × (walk .next ≡ Next.Goes p) × SoundBelow (now stars) sound ⌝ }
-    ensures { λ r. ⌜ Turned (dataOf (frameOf (now (centroids .entry)) (now (order .entry)) config (now (passes .entry))) slots (now (words .entry)) (now (packed .entry)) (now (stars .entry))) st allowance walk (now (places .exit)) (now (measures .exit)) (now (hashes .exit)) r ⌝ }
+) -> Iteration
+    requires { ⌜ Ready (dataOf (frameOf (now centroids) (now order) config (now passes)) slots (now words) (now packed) (now stars)) cursor cached (now places) (now geometry) (now hashes) × (cursor .next ≡ Next.Goes p) × ValidBelow (now stars) valid ⌝ }
+    ensures { λ r. ⌜ Iterated (dataOf (frameOf (now (centroids .entry)) (now (order .entry)) config (now (passes .entry))) slots (now (words .entry)) (now (packed .entry)) (now (stars .entry))) st allowance cursor (now (places .exit)) (now (geometry .exit)) (now (hashes .exit)) r ⌝ }
 {
-    let desk = read_desk::lay(
+    let current = search_cache::read::load(
         centroids,
         order,
         config,
         passes,
-        held,
+        cached,
         p,
         places,
-        measures,
+        geometry,
         hashes,
     );
-    let s = quiet_reads::through(
+    let s = fast_path::skip_reads::skip_reads(
         p.key,
         p.probe,
-        desk.keys,
+        current.keys,
         &*hashes,
         slots,
         words,
         packed,
         stars,
-        sound,
+        valid,
         allowance,
     );
-    let on = passed(walk, p, s, allowance);
+    let on = after_skip(cursor, p, s, allowance);
     if s.left == 0 {
         let reply = plain(Answer::AllowanceUsed, on.state());
-        return stop(reply, on, desk);
+        return stop(reply, on, current);
     }
-    let to = p.moved(s.key, s.probe);
-    read_turn(
+    let to = p.at_key(s.key, s.probe);
+    single_read(
         centroids,
         order,
         config,
@@ -244,16 +244,16 @@ fn read_on(
         st,
         s.left,
         on,
-        desk,
+        current,
         to,
         places,
-        measures,
+        geometry,
         &*hashes,
     )
 }
 
-// The read at hand, if there is one and the allowance has one left.
-pub fn turn(
+// One iteration: ends the call where no read or no allowance is left, else skips reads that give nothing and makes the next.
+pub fn iterate(
     centroids: &[f32],
     order: &[u32],
     config: SearchConfig,
@@ -262,30 +262,30 @@ pub fn turn(
     words: &[u64],
     packed: &[u8],
     stars: &[f32],
-    sound: u32,
+    valid: u32,
     st: State,
     allowance: u64,
-    walk: Walk,
-    held: Held,
+    cursor: Cursor,
+    cached: Cache,
     places: &mut [u32; 64],
-    measures: &mut [f32; 2208],
+    geometry: &mut [f32; 2208],
     hashes: &mut [u64; 1024],
-) -> Turn
-    requires { ⌜ Ready (dataOf (frameOf (now centroids) (now order) config (now passes)) slots (now words) (now packed) (now stars)) walk held (now places) (now measures) (now hashes) × SoundBelow (now stars) sound ⌝ }
-    ensures { λ r. ⌜ Turned (dataOf (frameOf (now (centroids .entry)) (now (order .entry)) config (now (passes .entry))) slots (now (words .entry)) (now (packed .entry)) (now (stars .entry))) st allowance walk (now (places .exit)) (now (measures .exit)) (now (hashes .exit)) r ⌝ }
+) -> Iteration
+    requires { ⌜ Ready (dataOf (frameOf (now centroids) (now order) config (now passes)) slots (now words) (now packed) (now stars)) cursor cached (now places) (now geometry) (now hashes) × ValidBelow (now stars) valid ⌝ }
+    ensures { λ r. ⌜ Iterated (dataOf (frameOf (now (centroids .entry)) (now (order .entry)) config (now (passes .entry))) slots (now (words .entry)) (now (packed .entry)) (now (stars .entry))) st allowance cursor (now (places .exit)) (now (geometry .exit)) (now (hashes .exit)) r ⌝ }
 {
-    let next = walk.next;
+    let next = cursor.next;
     match next {
         Next::Ends(s) => {
-            let reply = plain(Answer::Ended(s), walk.state());
-            stop(reply, walk, held)
+            let reply = plain(Answer::Ended(s), cursor.state());
+            stop(reply, cursor, cached)
         }
         Next::Goes(p) => {
             if allowance == 0 {
-                let reply = plain(Answer::AllowanceUsed, walk.state());
-                return stop(reply, walk, held);
+                let reply = plain(Answer::AllowanceUsed, cursor.state());
+                return stop(reply, cursor, cached);
             }
-            read_on(
+            skip_then_read(
                 centroids,
                 order,
                 config,
@@ -294,14 +294,14 @@ pub fn turn(
                 words,
                 packed,
                 stars,
-                sound,
+                valid,
                 st,
                 allowance,
-                walk,
-                held,
+                cursor,
+                cached,
                 p,
                 places,
-                measures,
+                geometry,
                 hashes,
             )
         }

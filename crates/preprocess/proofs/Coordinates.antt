@@ -12,11 +12,11 @@ use lib.ListN.{length, getD, drop, drop-of-length-le}
 use lib.Seq.{drop-cons}
 use lib.Ieee.{Float, nan, inf, fin, le, neg, ofBits}
 use lib.Ieee.Fits.{and-l, and-r, and-i}
-use Rattle.float.specs.Magnitude.{magnitudeOf}
-pub use Rattle.float_order.proofs.Tests.{both-l, both-r}
-use Rattle.float_order.proofs.Order.{le→below, below→le, holds}
+use Rattle.numeric.specs.Magnitude.{magnitudeOf}
+pub use Rattle.numeric.proofs.Tests.{both-l, both-r}
+use Rattle.numeric.proofs.Order.{le→below, below→le, holds}
 use Rattle.preprocess.specs.Questions.{farthest, coordinateFits, coordinatesFit}
-use Rattle.preprocess.specs.Claims.{Coordinate}
+use Rattle.preprocess.specs.UnitVectorsClaims.{Coordinate}
 
 -- two tests that hold together are equal
 same : (a b : Bool) → (T a → T b) → (T b → T a) → a ≡ b

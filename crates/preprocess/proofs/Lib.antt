@@ -1,2 +1,3 @@
 pub mod Coordinates
-pub mod Units
+pub mod UnitVectors
+pub mod BrightnessList

@@ -1,3 +1,5 @@
 pub mod Questions
-pub mod Vectors
-pub mod Claims
+pub mod UnitVectors
+pub mod UnitVectorsClaims
+pub mod BrightnessList
+pub mod BrightnessListClaims

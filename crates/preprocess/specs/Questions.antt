@@ -6,7 +6,7 @@ use lib.Dec.{leb, eqb}
 use lib.ListN.{length}
 use lib.Ieee.{Float, le, ofBits, binary32}
 use lib.Ieee.Scale.{finite}
-use Rattle.float.specs.Magnitude.{magnitudeOf}
+use Rattle.numeric.specs.Magnitude.{magnitudeOf}
 
 -- 1: "Is the centroid slice of even length (pairs of f32, x then y), at most 512?"
 unfoldable pub centroidsFit : List Float → Bool

@@ -5,22 +5,22 @@ use crate::lines::open_line;
 use crate::lines::slot_line;
 use crate::lines::stream_line;
 use crate::lines::sweep_line;
-use brightness_list::Place;
-use candidates::Candidate;
-use star_slice::StarIndex;
-use stream_records::Desk;
-use stream_records::option;
-use stream_words::Words;
+use candidates::entry_tests::Candidate;
+use pattern_entry::stars::StarIndex;
+use preprocess::brightness_list::Place;
+use stream::records::Inputs;
+use stream::records::option;
+use stream::words::Words;
 
-// Whether a run goes on after a call, and the desk after it.
+// Whether a run goes on after a call, and the inputs after it.
 struct Called {
     more: bool,
-    desk: Desk,
+    inputs: Inputs,
 }
 
 // One call and its line.
 fn call(
-    desk: Desk,
+    inputs: Inputs,
     table: &[u64],
     packed: &[u8],
     stars: &[f32],
@@ -29,14 +29,14 @@ fn call(
     triples: &[f32],
     allowance: u64,
 ) -> Called {
-    let config = desk.config;
-    let state = desk.state;
+    let config = inputs.config;
+    let state = inputs.state;
     let searched = pattern_search::search(
         coords,
         places,
         config,
         triples,
-        desk.table.slots,
+        inputs.table.slots,
         table,
         packed,
         stars,
@@ -45,14 +45,17 @@ fn call(
     );
     let left = searched.state;
     let more = call_line(searched);
-    let mut after = desk;
+    let mut after = inputs;
     after.state = left;
-    Called { more, desk: after }
+    Called {
+        more,
+        inputs: after,
+    }
 }
 
 // A call record.
 pub fn one_call(
-    desk: Desk,
+    inputs: Inputs,
     table: &[u64],
     packed: &[u8],
     stars: &[f32],
@@ -60,9 +63,9 @@ pub fn one_call(
     places: &[u32],
     triples: &[f32],
     allowance: u64,
-) -> Desk {
+) -> Inputs {
     let called = call(
-        desk,
+        inputs,
         table,
         packed,
         stars,
@@ -71,12 +74,12 @@ pub fn one_call(
         triples,
         allowance,
     );
-    called.desk
+    called.inputs
 }
 
 // A run record: calls until one ends the run.
 pub fn calls(
-    desk: Desk,
+    inputs: Inputs,
     table: &[u64],
     packed: &[u8],
     stars: &[f32],
@@ -84,10 +87,10 @@ pub fn calls(
     places: &[u32],
     triples: &[f32],
     allowance: u64,
-) -> Desk {
-    let mut now_at = desk;
-    let mut turns = u64::MAX;
-    while turns > 0 {
+) -> Inputs {
+    let mut now_at = inputs;
+    let mut rounds = u64::MAX;
+    while rounds > 0 {
         let called = call(
             now_at,
             table,
@@ -98,25 +101,28 @@ pub fn calls(
             triples,
             allowance,
         );
-        let d = called.desk;
+        let d = called.inputs;
         now_at = d;
         if !called.more {
             return now_at;
         }
-        turns -= 1;
+        rounds -= 1;
     }
     now_at
 }
 
 // The opening check and its line.
 pub fn open_record(slots: u64, table: &[u64], packed: &[u8], stars: &[f32]) {
-    open_line(opening::open_check(slots, table, packed, stars));
+    open_line(opening_check::open_check::open_check(slots, table, packed, stars));
 }
 
 // A slot read and its line.
 pub fn slot_record(slots: u64, table: &[u64], packed: &[u8], slot: u64) {
-    let held = pattern_catalog::slot_of(slots, table, packed, slot);
-    slot_line(held, pattern_catalog::entry_of(slots, table, packed, slot));
+    let found = pattern_catalog::slot_read::slot_of(slots, table, packed, slot);
+    slot_line(
+        found,
+        pattern_catalog::slot_read::entry_of(slots, table, packed, slot),
+    );
 }
 
 // A sweep into the first `room` of a lent slice, and its line; whether the slice has that room.
@@ -125,9 +131,9 @@ fn sweep_in(w: Words, out: &mut [f32]) -> bool {
     if room > out.len() {
         return false;
     }
-    let estimate = float_bits::from_bits(w.w0);
+    let estimate = numeric::bits::from_bits(w.w0);
     let error = option(w.w1, w.w2);
-    let step = float_bits::from_bits(w.w3);
+    let step = numeric::bits::from_bits(w.w3);
     let swept = fov_sweep::build_fov_sweep(estimate, error, step, &mut out[0..room]);
     sweep_line(swept, &*out);
     true
@@ -152,7 +158,7 @@ fn candidate_of(w: Words) -> Candidate {
         StarIndex(w.w7),
         StarIndex(w.w8),
     ];
-    let field = float_bits::from_bits(w.w9);
+    let field = numeric::bits::from_bits(w.w9);
     Candidate {
         pass: w.w0,
         places,
@@ -165,8 +171,15 @@ fn candidate_of(w: Words) -> Candidate {
 
 // A completing and its line.
 pub fn complete_record(w: Words, stars: &[f32], coords: &[f32], places: &[u32], triples: &[f32]) {
-    let told = candidate_of(w);
-    let scale = float_bits::from_bits(w.w11);
-    let completed = complete::complete(coords, places, triples, stars, told, scale);
+    let candidate = candidate_of(w);
+    let scale = numeric::bits::from_bits(w.w11);
+    let completed = complete::completing::complete(
+        coords,
+        places,
+        triples,
+        stars,
+        candidate,
+        scale,
+    );
     complete_line(completed);
 }

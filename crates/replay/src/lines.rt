@@ -1,18 +1,18 @@
 // The lines that the answers are written as.
-use brightness_list::Place;
-use candidates::Candidate;
-use complete::Completed;
-use complete::Completion;
-use complete::Row;
+use candidates::entry_tests::Candidate;
+use complete::completing::Completed;
+use complete::completing::Completion;
+use complete::completing::Row;
 use fov_sweep::Swept;
 use libc::STDOUT_FILENO;
-use opening::Opened;
-use pattern_catalog::Slot;
+use opening_check::open_check::Opened;
+use pattern_catalog::slot_read::Slot;
+use pattern_entry::stars::StarIndex;
 use pattern_search::Answer;
 use pattern_search::Searched;
-use star_slice::StarIndex;
-use undivided_run::State;
-use undivided_run::Status;
+use preprocess::brightness_list::Place;
+use undivided_run::state::State;
+use undivided_run::state::Status;
 
 // A word or the end of a line, as it stands.
 fn text(t: &[u8]) {
@@ -28,7 +28,7 @@ fn number(n: u64) {
 // A space and the bits of a float, 8 hex digits.
 fn bits(x: f32) {
     text(b" ");
-    io::print_hex(STDOUT_FILENO, float_bits::to_bits(x) as u64, 8);
+    io::print_hex(STDOUT_FILENO, numeric::bits::to_bits(x) as u64, 8);
 }
 
 // `refused` and the number of the question, without the end of the line.

@@ -11,20 +11,20 @@ use crate::answering::slot_record;
 use crate::answering::sweep_record;
 use crate::lines::stream_line;
 use libc::STDIN_FILENO;
-use stream::Coming;
-use stream_parts::first_bytes;
-use stream_parts::first_floats;
-use stream_parts::first_longs;
-use stream_parts::first_words;
-use stream_records::Desk;
-use stream_records::Record;
-use stream_records::Request;
-use stream_words::Words;
+use stream::lent::first_bytes;
+use stream::lent::first_floats;
+use stream::lent::first_longs;
+use stream::lent::first_words;
+use stream::next_record::Coming;
+use stream::records::Inputs;
+use stream::records::Record;
+use stream::records::Request;
+use stream::words::Words;
 
-// Whether the stream goes on after a record, and the desk after it.
+// Whether the stream goes on after a record, and the inputs after it.
 struct Answered {
     more: bool,
-    desk: Desk,
+    inputs: Inputs,
 }
 
 // What record number n asks for, answered over the lent parts.
@@ -32,7 +32,7 @@ fn answer(
     n: u64,
     request: Request,
     w: Words,
-    desk: Desk,
+    inputs: Inputs,
     table: &[u64],
     packed: &[u8],
     stars: &[f32],
@@ -41,18 +41,18 @@ fn answer(
     triples: &[f32],
 ) -> Answered {
     let mut more = true;
-    let mut after = desk;
+    let mut after = inputs;
     match request {
         Request::Call(m) => {
-            let d = one_call(desk, table, packed, stars, coords, places, triples, m);
+            let d = one_call(inputs, table, packed, stars, coords, places, triples, m);
             after = d;
         }
         Request::Run(m) => {
-            let d = calls(desk, table, packed, stars, coords, places, triples, m);
+            let d = calls(inputs, table, packed, stars, coords, places, triples, m);
             after = d;
         }
-        Request::Open => open_record(desk.table.slots, table, packed, stars),
-        Request::Slot(slot) => slot_record(desk.table.slots, table, packed, slot),
+        Request::Open => open_record(inputs.table.slots, table, packed, stars),
+        Request::Slot(slot) => slot_record(inputs.table.slots, table, packed, slot),
         Request::Sweep => {
             more = sweep_record(n, w);
         }
@@ -63,10 +63,13 @@ fn answer(
         }
         Request::Nothing => {}
     }
-    Answered { more, desk: after }
+    Answered {
+        more,
+        inputs: after,
+    }
 }
 
-// What record number n asks for, answered over as much of the lent arrays as the desk says is taken.
+// What record number n asks for, answered over as much of the lent arrays as the inputs say is taken.
 fn answer_lent(
     n: u64,
     record: Record,
@@ -79,25 +82,25 @@ fn answer_lent(
 ) -> Answered {
     let request = record.request;
     let w = record.words;
-    let desk = record.desk;
+    let inputs = record.inputs;
     answer(
         n,
         request,
         w,
-        desk,
-        first_longs(table, desk.table.words),
-        first_bytes(packed, desk.table.packed),
-        first_floats(stars, desk.table.stars),
-        first_floats(coords, desk.frame.coords),
-        first_words(places, desk.frame.places),
-        first_floats(triples, desk.frame.triples),
+        inputs,
+        first_longs(table, inputs.table.words),
+        first_bytes(packed, inputs.table.packed),
+        first_floats(stars, inputs.table.stars),
+        first_floats(coords, inputs.frame.coords),
+        first_words(places, inputs.frame.places),
+        first_floats(triples, inputs.frame.triples),
     )
 }
 
 // Record number n, read and answered.
 fn next_answer(
     n: u64,
-    desk: Desk,
+    inputs: Inputs,
     table: &mut [u64; 2560],
     packed: &mut [u8; 1500000],
     stars: &mut [f32; 200000],
@@ -105,14 +108,28 @@ fn next_answer(
     places: &mut [u32; 320],
     triples: &mut [f32; 900],
 ) -> Answered {
-    match stream::next_record(STDIN_FILENO, table, packed, stars, coords, places, triples) {
-        Coming::End => Answered { more: false, desk },
+    match stream::next_record::next_record(
+        STDIN_FILENO,
+        table,
+        packed,
+        stars,
+        coords,
+        places,
+        triples,
+    ) {
+        Coming::End => Answered {
+            more: false,
+            inputs,
+        },
         Coming::Broken => {
             stream_line(n);
-            Answered { more: false, desk }
+            Answered {
+                more: false,
+                inputs,
+            }
         }
         Coming::Record(kind, w) => {
-            let record = stream_records::record_of(kind, w, desk);
+            let record = stream::records::record_of(kind, w, inputs);
             answer_lent(
                 n,
                 record,
@@ -130,17 +147,17 @@ fn next_answer(
 // Record after record. A stream has fewer than 2^64 of them.
 fn main() {
     let mut table = [0u64; 2560];
-    let mut packed = stream_parts::no_bytes();
-    let mut stars = stream_parts::no_stars();
+    let mut packed = stream::lent::no_bytes();
+    let mut stars = stream::lent::no_stars();
     let mut coords = [0.0f32; 640];
     let mut places = [0u32; 320];
     let mut triples = [0.0f32; 900];
-    let mut desk = stream_records::start();
+    let mut inputs = stream::records::start();
     let mut n: u64 = 0;
     while n < u64::MAX {
         let t = next_answer(
             n,
-            desk,
+            inputs,
             &mut table,
             &mut packed,
             &mut stars,
@@ -151,8 +168,8 @@ fn main() {
         if !t.more {
             return;
         }
-        let d = t.desk;
-        desk = d;
+        let d = t.inputs;
+        inputs = d;
         n += 1;
     }
 }

@@ -1,4 +1,4 @@
-pub mod Spots
-pub mod Limits
-pub mod Sound
-pub mod Looks
+pub mod KeptSpots
+pub mod WithinLimits
+pub mod OpenedValid
+pub mod TableRead

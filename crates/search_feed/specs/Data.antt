@@ -3,7 +3,7 @@ use Prim.Native.Nat.{ℕ}
 use mathlib.Core.Bool.{Bool}
 use mathlib.Core.List.{List}
 use lib.Ieee.{Float}
-use Rattle.search_settings.specs.Limits.{settingsFit}
+use Rattle.settings.specs.SettingsLimits.{settingsFit}
 use Rattle.search_feed.specs.declared.SearchConfig.{SearchConfig}
 
 -- question 4 of the settings

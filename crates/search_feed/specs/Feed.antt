@@ -5,25 +5,25 @@ use mathlib.Core.List.{List, [], _∷_}
 use mathlib.Core.Option.{Option, none, some}
 use lib.ListN.{length}
 use lib.Ieee.{Float}
-use Rattle.combinations.specs.declared.Four.{Four}
-use Rattle.brightness_list.specs.declared.Place.{Place}
-use Rattle.key_hash.specs.Key.{homeOf, markOf}
-use Rattle.table_blocks.specs.Blocks.{filled, place}
+use Rattle.combinations.specs.declared.Combination.{Combination}
+use Rattle.preprocess.specs.declared.brightness_list.Place.{Place}
+use Rattle.pattern.specs.Key.{homeOf, markOf}
+use Rattle.pattern_catalog.specs.Blocks.{filled, place}
 use Rattle.pattern_entry.specs.Entry.{bytesAt, entryRead}
-use Rattle.sound_entries.specs.Sound.{entrySound}
-use Rattle.comparisons.specs.Comparisons.{rebuildOf}
+use Rattle.pattern_entry.specs.Validity.{entryValid}
+use Rattle.candidates.specs.Comparisons.{rebuildOf}
 use Rattle.candidates.specs.NoCandidate.{placeOf}
-use Rattle.candidates.specs.Tests.{testOf}
-use Rattle.candidates.specs.declared.Candidate.{Candidate}
-use Rattle.candidates.specs.declared.Tested.{Tested}
-use Rattle.candidates.specs.declared.Tested.the-variants.{Over, Hit}
-use Rattle.undivided_run.specs.declared.Position.{Position}
+use Rattle.candidates.specs.EntryTests.{testOf}
+use Rattle.candidates.specs.declared.entry_tests.Candidate.{Candidate}
+use Rattle.candidates.specs.declared.entry_tests.Tested.{Tested}
+use Rattle.candidates.specs.declared.entry_tests.Tested.the-variants.{PassedOver, Hit}
+use Rattle.undivided_run.specs.declared.state.Position.{Position}
 use Rattle.undivided_run.specs.Undivided.{Feed}
 use Rattle.search_feed.specs.Data.{Frame, Data}
 use Rattle.search_feed.specs.Image.{toleranceIn, keysIn, hashIn, passOf, keptPlaces, keptPlace, imageAt}
 
 -- "The combination is given as four places in the brightness list"
-unfoldable pub placesOf : Frame → ℕ → Four → List Place
+unfoldable pub placesOf : Frame → ℕ → Combination → List Place
 placesOf F i q = placeOf (keptPlace F i (q .a)) ∷ placeOf (keptPlace F i (q .b)) ∷ placeOf (keptPlace F i (q .c)) ∷ placeOf (keptPlace F i (q .d)) ∷ []
 
 -- the hash of the key that a read is of
@@ -35,7 +35,7 @@ module _ (D : Data) where
   unfoldable pub slotAt : Position → ℕ
   slotAt r = (homeOf (hashOfRead (D .frame) r) (D .slots) + r .probe * r .probe) % D .slots
 
-  -- a filled slot's bytes; they are fewer than 22 where the entry lies outside the section, and then not sound
+  -- a filled slot's bytes; they are fewer than 22 where the entry lies outside the section, and then not valid
   unfoldable pub entryAt : ℕ → Option (List ℕ)
   entryAt x = cond (filled (D .words) x) (some (bytesAt (D .packed) (place (D .words) x))) none
 
@@ -58,7 +58,7 @@ module _ (D : Data) where
       (toleranceIn (D .frame .config)) (passOf (D .frame) (r .pass) .field) (D .frame .config .fov)
 
   abbrev pub ifHit : Position → List ℕ → Tested → Option Candidate
-  ifHit r e Over = none
+  ifHit r e PassedOver = none
   ifHit r e (Hit f) = some (candidateOf r e f)
 
   -- the run's feed; an entry is its bytes
@@ -73,5 +73,5 @@ module _ (D : Data) where
         patterns = D .frame .config .patterns;
         entry = entryAt;
         test = λ r e. ifHit r e (testedAt r e);
-        sound = entrySound (D .stars);
+        valid = entryValid (D .stars);
       }

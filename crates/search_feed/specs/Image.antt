@@ -3,15 +3,15 @@ use Prim.Native.Nat.{ℕ}
 use mathlib.Core.List.{List, [], _∷_}
 use lib.ListN.{length, getD}
 use lib.Ieee.{Float, nan}
-use Rattle.combinations.specs.declared.Four.{Four}
-use Rattle.passes.specs.declared.Pass.{Pass}
-use Rattle.passes.specs.Passes.{passAt}
-use Rattle.thinning.specs.Thinning.{spotAt, keptOf}
+use Rattle.combinations.specs.declared.Combination.{Combination}
+use Rattle.settings.specs.declared.passes.Pass.{Pass}
+use Rattle.settings.specs.Passes.{passAt}
+use Rattle.thinning.specs.KeptList.{spotAt, keptOf}
 use Rattle.pattern.specs.Edges.{edgesOf, ratiosOf}
-use Rattle.key_hash.specs.Key.{hashOf}
-use Rattle.pattern_keys.specs.Ranges.{keysFor}
-use Rattle.tolerance.specs.Tolerances.{toleranceOf}
-use Rattle.candidates.specs.declared.Image.{Image}
+use Rattle.pattern.specs.Key.{hashOf}
+use Rattle.pattern_keys.specs.KeyBounds.{keysFor}
+use Rattle.settings.specs.Tolerance.{toleranceOf}
+use Rattle.candidates.specs.declared.entry_tests.Image.{Image}
 use Rattle.search_feed.specs.declared.SearchConfig.{SearchConfig}
 use Rattle.search_feed.specs.Data.{Frame}
 
@@ -49,9 +49,9 @@ module _ (F : Frame) where
   keptPlace i x = getD (keptPlaces i) x 0
 
   -- a combination's four directions
-  unfoldable pub directionsOf : ℕ → Four → List (List Float)
+  unfoldable pub directionsOf : ℕ → Combination → List (List Float)
   directionsOf i q = spotOf i (keptPlace i (q .a)) ∷ spotOf i (keptPlace i (q .b)) ∷ spotOf i (keptPlace i (q .c)) ∷ spotOf i (keptPlace i (q .d)) ∷ []
 
   -- what the frame shows of a combination
-  abbrev pub imageAt : ℕ → Four → Image
+  abbrev pub imageAt : ℕ → Combination → Image
   imageAt i q = imageOf (directionsOf i q)

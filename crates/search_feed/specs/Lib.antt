@@ -1,5 +1,5 @@
 pub mod Data
 pub mod Image
 pub mod Feed
-pub mod Look
+pub mod TableRead
 pub mod Claims

@@ -1,1 +1,3 @@
-pub mod Asking
+pub mod Question8
+pub mod Questions1To7
+pub mod StateFits

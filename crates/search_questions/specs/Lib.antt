@@ -1,1 +1,2 @@
+pub mod Question8
 pub mod Questions

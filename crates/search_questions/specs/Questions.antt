@@ -4,18 +4,18 @@ use mathlib.Core.List.{List}
 use mathlib.Core.Option.{Option, none, some}
 use lib.Ieee.{Float}
 use Rattle.preprocess.specs.Questions.{centroidsFit, coordinatesFit}
-use Rattle.brightness_list.specs.Order.{orderFits}
-use Rattle.passes.specs.Passes.{passesFit}
-use Rattle.star_slice.specs.Ask.{ask}
-use Rattle.table_blocks.specs.Blocks.{tableFits}
-use Rattle.star_slice.specs.Stars.{starsFit}
-use Rattle.undivided_run.specs.declared.State.{State}
-use Rattle.undivided_run.specs.Eight.{eightOk}
+use Rattle.preprocess.specs.BrightnessList.{orderFits}
+use Rattle.settings.specs.Passes.{passesFit}
+use Rattle.pattern_entry.specs.FirstNo.{ask}
+use Rattle.pattern_catalog.specs.Blocks.{tableFits}
+use Rattle.pattern_entry.specs.Stars.{starsFit}
+use Rattle.undivided_run.specs.declared.state.State.{State}
+use Rattle.search_questions.specs.Question8.{stateFits}
 use Rattle.undivided_run.specs.Undivided.{cases}
 use Rattle.search_feed.specs.Data.{Frame, Data, settingsOk}
 use Rattle.search_feed.specs.Feed.{feed}
-use Rattle.search_questions.specs.declared.Asked.{Asked}
-use Rattle.search_questions.specs.declared.Asked.the-variants.{Clear, No}
+use Rattle.search_questions.specs.declared.questions_1_to_7.Questions1To7.{Questions1To7}
+use Rattle.search_questions.specs.declared.questions_1_to_7.Questions1To7.the-variants.{Clear, No}
 
 -- the number of the first of questions 1 to 7 whose answer is no
 unfoldable pub firstSeven : Frame → ℕ → List ℕ → List Float → Option ℕ
@@ -31,9 +31,9 @@ firstSeven F slots words stars =
 -- .. of questions 1 to 8
 unfoldable pub firstNo : Data → State → Option ℕ
 firstNo D st =
-    cases (firstSeven (D .frame) (D .slots) (D .words) (D .stars)) (ask (eightOk (feed D) st) (some 8) none) λ n. some n
+    cases (firstSeven (D .frame) (D .slots) (D .words) (D .stars)) (ask (stateFits (feed D) st) (some 8) none) λ n. some n
 
 -- what the code's answer says
-abbrev pub askedOf : Asked → Option ℕ
+abbrev pub askedOf : Questions1To7 → Option ℕ
 askedOf Clear = none
 askedOf (No n) = some n

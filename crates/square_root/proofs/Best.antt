@@ -17,7 +17,7 @@ use lib.Ieee.Fits.{odd-fits}
 use lib.Ieee.Exact.{HasValue, odd-sign}
 use lib.Ieee.Positive.{positive, num, den, den-pos, value→cross, positive-of-value}
 use Rattle.square_root.specs.Root.{rootOf}
-use Rattle.square_root.specs.Best.{nought, grid, fine, Nearer, NoneNearer}
+use Rattle.square_root.specs.Best.{plusZero, grid, fine, Nearer, NoneNearer}
 use Rattle.square_root.specs.Steps.{Nearest}
 use Rattle.square_root.proofs.Squares.{sq-mono, sq-next, sq-gap, sq-odd, root-low, mids-below}
 use Rattle.square_root.proofs.Count.{four-pos}
@@ -157,7 +157,7 @@ zero-grid s e = ap (λ (x : ℕ). x * 2 ^ 149 / down e) (zero-mul (up e)) ∙ ap
 Digits : Float → Type 0
 Digits z = (m : ℕ) × (f : ℕ) × (m < 16777216) × (grid z ≡ m * 2 ^ f)
 
-digits : (z : Float) → T (fits binary32 z) → T (finite z) → T (le nought z) → Digits z
+digits : (z : Float) → T (fits binary32 z) → T (finite z) → T (le plusZero z) → Digits z
 unfolding Digits
 digits nan F p h = absurd p
 digits (inf s) F p h = absurd p
@@ -210,8 +210,8 @@ module _ (x : Float) (o : Rooted x) where
   root-above = positive-of-value (rootOf x) (o .q * 2 ^ (o .e / 2 + 51)) (2 ^ 149) root-value (mul-pos (lt-of-lt-of-le (zero-lt-suc 8388607) (o .near .low)) (pow-pos (o .e / 2 + 51)))
 
   -- its 24 digits and its size are those of an f32
-  root-held : T (fits binary32 (rootOf x))
-  root-held =
+  root-representable : T (fits binary32 (rootOf x))
+  root-representable =
       let q = o .q in
       let d = o .e / 2 + 51 in
       let high = o .near .high in
@@ -221,7 +221,7 @@ module _ (x : Float) (o : Rooted x) where
       reach : (e : ℕ) → e < 278 → 24 + (e / 2 + 51) ≤ 277
       reach e h = omega arith
 
-  none-nearer : (z : Float) → T (fits binary32 z) → T (finite z) → T (le nought z) → Nearer x (rootOf x) z
+  none-nearer : (z : Float) → T (fits binary32 z) → T (finite z) → T (le plusZero z) → Nearer x (rootOf x) z
   unfolding Digits
   none-nearer z G r v =
       let q = o .q in
@@ -242,4 +242,4 @@ module _ (x : Float) (o : Rooted x) where
       }
 
 pub root-nearest : NoneNearer
-root-nearest x F p = let o = rooted x F p in (root-held x o, root-above x o, none-nearer x o)
+root-nearest x F p = let o = rooted x F p in (root-representable x o, root-above x o, none-nearer x o)

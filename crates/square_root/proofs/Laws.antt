@@ -1,5 +1,5 @@
--- The laws of `rootOf` that callers use. A premise `T (le nought x)` says that x is no NaN and not below zero: it is ±0, a positive number or the infinity.
---   root-nought    the root of +0 is +0 (and of -0, -0)
+-- The laws of `rootOf` that callers use. A premise `T (le plusZero x)` says that x is no NaN and not below zero: it is ±0, a positive number or the infinity.
+--   root-plus-zero    the root of +0 is +0 (and of -0, -0)
 --   root-not-below the root of what is not below zero is no NaN and not below zero
 --   root-finite    the root of what is finite and not below zero is finite
 --   root-mono      the root keeps the order
@@ -22,14 +22,14 @@ use lib.Ieee.Order.{le-of-values}
 use lib.Ieee.Positive.{le→cross}
 use lib.Ieee.Scale.{finite}
 use Rattle.square_root.specs.Root.{rootOf}
-use Rattle.square_root.specs.Best.{nought}
+use Rattle.square_root.specs.Best.{plusZero}
 use Rattle.square_root.proofs.Values.{root-pos}
 use Rattle.square_root.proofs.Monotone.{units, whole-value, units-mono}
 use Rattle.square_root.proofs.Examples.{quarter}
 
-pub root-nought : (s : Bool) → rootOf (fin s 0 (pos 0)) ≡ fin s 0 (pos 0)
+pub root-plus-zero : (s : Bool) → rootOf (fin s 0 (pos 0)) ≡ fin s 0 (pos 0)
 unfolding rootOf
-root-nought s = refl
+root-plus-zero s = refl
 
 -- ---- which comparisons fail, with the two magnitudes a and b as numbers
 or-split : (a b : Bool) → T (a || b) → T a ⊎ T b
@@ -125,15 +125,15 @@ below-nan nan t = t
 below-nan (inf s) t = t
 below-nan (fin s m e) t = t
 
-zero-over-inf : T (le nought (inf true)) → ⊥
+zero-over-inf : T (le plusZero (inf true)) → ⊥
 unfolding le
 zero-over-inf t = t
 
-pub root-not-below : (x : Float) → T (le nought x) → T (le nought (rootOf x))
-root-not-below nan h = absurd (below-nan nought h)
+pub root-not-below : (x : Float) → T (le plusZero x) → T (le plusZero (rootOf x))
+root-not-below nan h = absurd (below-nan plusZero h)
 root-not-below (inf true) h = absurd (zero-over-inf h)
-root-not-below (inf false) h = subst (λ (y : Float). T (le nought y)) (sym root-inf) h
-root-not-below (fin s zero e) h = subst (λ (y : Float). T (le nought y)) (sym (root-same s e)) h
+root-not-below (inf false) h = subst (λ (y : Float). T (le plusZero y)) (sym root-inf) h
+root-not-below (fin s zero e) h = subst (λ (y : Float). T (le plusZero y)) (sym (root-same s e)) h
 root-not-below (fin true (suc m) e) h = absurd (zero-over-negative false (pos 0) m e h)
 root-not-below (fin false (suc m) e) h = zero-under false (pos 0) (rootOf (fin false (suc m) e)) (units (suc m * up e * 2 ^ 298 / down e)) (2 ^ 149) (root-of m e)
 
@@ -142,7 +142,7 @@ finite-of-value nan a c v = v
 finite-of-value (inf s) a c v = v
 finite-of-value (fin s m e) a c v = tt
 
-pub root-finite : (x : Float) → T (finite x) → T (le nought x) → T (finite (rootOf x))
+pub root-finite : (x : Float) → T (finite x) → T (le plusZero x) → T (finite (rootOf x))
 root-finite nan f h = absurd f
 root-finite (inf s) f h = absurd f
 root-finite (fin s zero e) f h = subst (λ (y : Float). T (finite y)) (sym (root-same s e)) tt
@@ -150,14 +150,14 @@ root-finite (fin true (suc m) e) f h = absurd (zero-over-negative false (pos 0) 
 root-finite (fin false (suc m) e) f h = finite-of-value (rootOf (fin false (suc m) e)) (units (suc m * up e * 2 ^ 298 / down e)) (2 ^ 149) (root-of m e)
 
 -- ---- order
-under-inf : (x : Float) → T (le nought x) → T (le x (inf false))
+under-inf : (x : Float) → T (le plusZero x) → T (le x (inf false))
 unfolding le
 under-inf nan h = absurd h
 under-inf (inf true) h = absurd h
 under-inf (inf false) h = tt
 under-inf (fin s m e) h = tt
 
-over-negative-inf : (x : Float) → T (le nought x) → T (le x (inf true)) → ⊥
+over-negative-inf : (x : Float) → T (le plusZero x) → T (le x (inf true)) → ⊥
 unfolding le
 over-negative-inf nan h k = k
 over-negative-inf (inf true) h k = h
@@ -175,11 +175,11 @@ whole-mono m e n d h =
     (le-trans (mul-le-mul-right (2 ^ 298) (le→cross (fin false (suc m) e) (fin false (suc n) d) (lt→ltb 0 (suc m) (zero-lt-suc m)) (lt→ltb 0 (suc n) (zero-lt-suc n)) h))
     (le-of-eq (mul-right-comm (suc n * up d) (down e) (2 ^ 298)))))
 
-pub root-mono : (x y : Float) → T (le nought x) → T (le x y) → T (le (rootOf x) (rootOf y))
+pub root-mono : (x y : Float) → T (le plusZero x) → T (le x y) → T (le (rootOf x) (rootOf y))
 root-mono x nan h k = absurd (below-nan x k)
 root-mono x (inf true) h k = absurd (over-negative-inf x h k)
 root-mono x (inf false) h k = subst (λ (y : Float). T (le (rootOf x) y)) (sym root-inf) (under-inf (rootOf x) (root-not-below x h))
-root-mono nan (fin t n d) h k = absurd (below-nan nought h)
+root-mono nan (fin t n d) h k = absurd (below-nan plusZero h)
 root-mono (inf true) (fin t n d) h k = absurd (zero-over-inf h)
 root-mono (inf false) (fin t n d) h k = absurd (inf-under-finite t n d k)
 root-mono (fin true (suc m) e) (fin t n d) h k = absurd (zero-over-negative false (pos 0) m e h)
@@ -196,5 +196,5 @@ root-mono (fin false (suc m) e) (fin false (suc n) d) h k =
     (mul-le-mul-right (2 ^ 149) (units-mono (suc m * up e * 2 ^ 298 / down e) (suc n * up d * 2 ^ 298 / down d) (whole-mono m e n d k)))
 
 -- 0.25 and 0.5
-pub root-half : (x : Float) → T (le nought x) → T (le x (fin false 1 (negsuc 1))) → T (le (rootOf x) (fin false 1 (negsuc 0)))
+pub root-half : (x : Float) → T (le plusZero x) → T (le x (fin false 1 (negsuc 1))) → T (le (rootOf x) (fin false 1 (negsuc 0)))
 root-half x h k = subst (λ (y : Float). T (le (rootOf x) y)) quarter (root-mono x (fin false 1 (negsuc 1)) h k)

@@ -9,8 +9,8 @@ use lib.Ieee.Positive.{positive, num, den}
 use Rattle.square_root.specs.Root.{rootOf}
 
 -- +0
-abbrev pub nought : Float
-nought = fin false 0 (pos 0)
+abbrev pub plusZero : Float
+plusZero = fin false 0 (pos 0)
 
 -- a finite value that is not negative, in units of the smallest f32, 2 ^ -149, and in units of its square, 2 ^ -298
 abbrev pub grid : Float → ℕ
@@ -29,4 +29,4 @@ pub record Nearer (x r z : Float) : Type 0 where
 -- (A negative z is farther off than 0 is.) The distances are equal nowhere, so ties to even has nothing to decide.
 abbrev pub NoneNearer : Type 0
 NoneNearer = (x : Float) → T (fits binary32 x) → T (positive x)
-    → T (fits binary32 (rootOf x)) × T (positive (rootOf x)) × ((z : Float) → T (fits binary32 z) → T (finite z) → T (le nought z) → Nearer x (rootOf x) z)
+    → T (fits binary32 (rootOf x)) × T (positive (rootOf x)) × ((z : Float) → T (fits binary32 z) → T (finite z) → T (le plusZero z) → Nearer x (rootOf x) z)

@@ -1,1 +1,2 @@
-mod Untrue
+pub mod FirstParts
+pub mod Untrue

@@ -1,1 +1,4 @@
-pub mod Coming
+pub mod Lent
+pub mod Words
+pub mod Records
+pub mod NextRecord

@@ -1,6 +1,6 @@
 // Numbers off a stream, little-endian. Each says whether the stream still had it; `fd` is the descriptor that it is read from.
-use stream_words::Words;
-use stream_words::long_of;
+use crate::words::Words;
+use crate::words::long_of;
 
 // A u32, where the stream still has its four bytes.
 struct Word {
@@ -32,7 +32,7 @@ pub enum Head {
 fn next_word(fd: i32) -> Word {
     let mut b = [0u8; 4];
     let got = io::read_full(fd, &mut b);
-    let n = float_bits::u32_from_le_bytes(b);
+    let n = numeric::bits::u32_from_le_bytes(b);
     Word { ok: got == 4, n }
 }
 
@@ -61,7 +61,7 @@ pub fn next_head(fd: i32) -> Head {
     if !length.ok {
         return Head::Broken;
     }
-    let kind = float_bits::u32_from_le_bytes(b);
+    let kind = numeric::bits::u32_from_le_bytes(b);
     Head::Record(kind, length.n)
 }
 
@@ -121,7 +121,7 @@ pub fn fill_floats(fd: i32, out: &mut [f32], n: usize) -> bool {
         if !x.ok {
             return false;
         }
-        out[i] = float_bits::from_bits(x.n);
+        out[i] = numeric::bits::from_bits(x.n);
         i += 1;
     }
     true

@@ -1,2 +1,4 @@
-pub mod Thinning
-pub mod Ahead
+pub mod Separation
+pub mod Columns
+pub mod KeptList
+pub mod LookAhead

@@ -6,13 +6,13 @@ use native.Mathlib.Numerals.{add-one}
 use mathlib.Core.Bool.{Bool, true, false, cond, _||_}
 use lib.Dec.{ltb}
 use borrow.Author.Tests.{lt-ltb, le-ltb}
-use Rattle.combinations.specs.declared.Four.{Four}
-use Rattle.combinations.specs.Successor.{firstFour, nextFour, maybeOf}
-use Rattle.combinations.specs.declared.MaybeFour.{MaybeFour}
-use Rattle.combinations.specs.declared.MaybeFour.the-variants.{Next as Following, Nothing}
+use Rattle.combinations.specs.declared.Combination.{Combination}
+use Rattle.combinations.specs.Successor.{firstCombination, nextCombination, maybeOf}
+use Rattle.combinations.specs.declared.NextCombination.{NextCombination}
+use Rattle.combinations.specs.declared.NextCombination.the-variants.{Next as Following, Nothing}
 use Rattle.undivided_run.specs.Undivided.{Status, TooFew, NoMatch, Timeout, Read, Feed, Cap, reached, isZero, cases, filled, starts}
-use Rattle.undivided_run.specs.Step.{Next, goes, ends, bump, toPass, afterFour, afterKey, nextRead}
-use Rattle.undivided_run.specs.Moves.{firstOf, probed, keyed, toFour}
+use Rattle.undivided_run.specs.Step.{Next, goes, ends, countTried, toPass, afterCombination, afterKey, nextRead}
+use Rattle.undivided_run.specs.Moves.{firstOf, probed, keyed, toCombination}
 
 pub zero-not : (x : ℕ) → (x ≡ 0 → ⊥) → isZero x ≡ false
 unfolding isZero
@@ -25,17 +25,17 @@ zero-is x h = rw h
 
 -- ---- the count of combinations
 module _ (r : Read) (n : ℕ) where
-  pub bump-first : r .probe ≡ 0 → r .key ≡ 0 → n + 1 ≡ bump r n
-  unfolding bump starts
-  bump-first p k = rw (zero-is (r .probe) p, zero-is (r .key) k) (omega arith)
+  pub count-tried-first : r .probe ≡ 0 → r .key ≡ 0 → n + 1 ≡ countTried r n
+  unfolding countTried starts
+  count-tried-first p k = rw (zero-is (r .probe) p, zero-is (r .key) k) (omega arith)
 
-  pub bump-key : r .probe ≡ 0 → (r .key ≡ 0 → ⊥) → n ≡ bump r n
-  unfolding bump starts
-  bump-key p k = rw (zero-is (r .probe) p, zero-not (r .key) k)
+  pub count-tried-key : r .probe ≡ 0 → (r .key ≡ 0 → ⊥) → n ≡ countTried r n
+  unfolding countTried starts
+  count-tried-key p k = rw (zero-is (r .probe) p, zero-not (r .key) k)
 
-  pub bump-probe : (r .probe ≡ 0 → ⊥) → n ≡ bump r n
-  unfolding bump starts
-  bump-probe p = rw (zero-not (r .probe) p)
+  pub count-tried-probe : (r .probe ≡ 0 → ⊥) → n ≡ countTried r n
+  unfolding countTried starts
+  count-tried-probe p = rw (zero-not (r .probe) p)
 
 module _ {E C : Type 0} (F : Feed E C) (cap : Cap) (tried : ℕ) where
   -- ---- the passes from i on
@@ -47,7 +47,7 @@ module _ {E C : Type 0} (F : Feed E C) (cap : Cap) (tried : ℕ) where
   from-end i s h = let e : F .passes - i ≡ 0 = omega arith in rw e
 
   module _ (i : ℕ) (s : Status) (h : i < F .passes) where
-    from-at : from i s ≡ cond (reached cap tried) (ends Timeout) (cond (ltb (F .kept i) 4) (from (suc i) TooFew) (cond (isZero (F .slots) || isZero (F .patterns)) (from (suc i) NoMatch) (cases (firstFour (F .kept i)) (from (suc i) NoMatch) λ q. toFour cap tried i q)))
+    from-at : from i s ≡ cond (reached cap tried) (ends Timeout) (cond (ltb (F .kept i) 4) (from (suc i) TooFew) (cond (isZero (F .slots) || isZero (F .patterns)) (from (suc i) NoMatch) (cases (firstCombination (F .kept i)) (from (suc i) NoMatch) λ q. toCombination cap tried i q)))
     unfolding toPass
     from-at = let e : F .passes - i ≡ suc (F .passes - suc i) = omega arith in ap (λ n. toPass F cap n i s tried) e
 
@@ -62,9 +62,9 @@ module _ {E C : Type 0} (F : Feed E C) (cap : Cap) (tried : ℕ) where
         pub from-off : isZero (F .slots) || isZero (F .patterns) ≡ true → from (i + 1) NoMatch ≡ from i s
         from-off z = sym (from-at ∙ rw (← e, f, ← ke, le-ltb k 4 l, z, add-one))
 
-        module _ (z : isZero (F .slots) || isZero (F .patterns) ≡ false) (m : MaybeFour) (me : maybeOf m ≡ firstFour k) where
-          pub from-open : (q : Four) → m ≡ Following q → from i s ≡ goes (firstOf i q)
-          unfolding toFour cases
+        module _ (z : isZero (F .slots) || isZero (F .patterns) ≡ false) (m : NextCombination) (me : maybeOf m ≡ firstCombination k) where
+          pub from-open : (q : Combination) → m ≡ Following q → from i s ≡ goes (firstOf i q)
+          unfolding toCombination cases
           from-open q o = from-at ∙ rw (← e, f, ← ke, le-ltb k 4 l, z, ← me, o)
 
           pub from-none : m ≡ Nothing → from (i + 1) NoMatch ≡ from i s
@@ -72,13 +72,13 @@ module _ {E C : Type 0} (F : Feed E C) (cap : Cap) (tried : ℕ) where
           from-none o = sym (from-at ∙ rw (← e, f, ← ke, le-ltb k 4 l, z, ← me, o, add-one))
 
   -- ---- after the last read of a combination
-  module _ (i : ℕ) (q : Four) (k : ℕ) (ke : k ≡ F .kept i) (m : MaybeFour) (me : maybeOf m ≡ nextFour k q) where
-    pub four-more : (p : Four) → m ≡ Following p → afterFour F cap i q tried ≡ toFour cap tried i p
-    unfolding afterFour cases
+  module _ (i : ℕ) (q : Combination) (k : ℕ) (ke : k ≡ F .kept i) (m : NextCombination) (me : maybeOf m ≡ nextCombination k q) where
+    pub four-more : (p : Combination) → m ≡ Following p → afterCombination F cap i q tried ≡ toCombination cap tried i p
+    unfolding afterCombination cases
     four-more p e = rw (← ke, ← me, e)
 
-    pub four-last : m ≡ Nothing → afterFour F cap i q tried ≡ from (i + 1) NoMatch
-    unfolding afterFour cases
+    pub four-last : m ≡ Nothing → afterCombination F cap i q tried ≡ from (i + 1) NoMatch
+    unfolding afterCombination cases
     four-last e = rw (← ke, ← me, e, add-one)
 
   -- ---- after the last read of a key, and after any read
@@ -91,7 +91,7 @@ module _ {E C : Type 0} (F : Feed E C) (cap : Cap) (tried : ℕ) where
       unfolding afterKey
       key-more h = rw (← ke, lt-ltb (suc (r .key)) k (omega arith))
 
-      pub key-last : k ≤ r .key + 1 → past ≡ afterFour F cap (r .pass) (r .four) tried
+      pub key-last : k ≤ r .key + 1 → past ≡ afterCombination F cap (r .pass) (r .four) tried
       unfolding afterKey
       key-last h = rw (← ke, le-ltb (suc (r .key)) k (omega arith))
 

@@ -2,6 +2,7 @@ pub mod Undivided
 pub mod Calls
 pub mod Moves
 pub mod Step
-pub mod Exists
-pub mod Eight
-pub mod Good
+pub mod PositionExists
+pub mod CallInvariant
+pub mod Tried
+pub mod Demand3

@@ -4,15 +4,15 @@ use mathlib.Core.List.{List, [], _∷_, _++_}
 use mathlib.Core.Bool.{Bool, true, false, cond, _&&_, _||_}
 use mathlib.Core.Option.{Option, none, some}
 use lib.Dec.{leb, ltb}
-use Rattle.combinations.specs.declared.Four.{Four}
-use Rattle.combinations.specs.Fours.{fours}
+use Rattle.combinations.specs.declared.Combination.{Combination}
+use Rattle.combinations.specs.Combinations.{combinationList}
 use Rattle.combinations.specs.Lists.{each, upto}
-pub use Rattle.undivided_run.specs.declared.Status.{Status}
-pub use Rattle.undivided_run.specs.declared.Status.the-variants.{TooFew, NoMatch, Timeout}
-pub use Rattle.undivided_run.specs.declared.Cap.{Cap}
-pub use Rattle.undivided_run.specs.declared.Cap.the-variants.{Absent as absent, Given as given}
+pub use Rattle.undivided_run.specs.declared.state.Status.{Status}
+pub use Rattle.undivided_run.specs.declared.state.Status.the-variants.{TooFew, NoMatch, Timeout}
+pub use Rattle.undivided_run.specs.declared.state.Cap.{Cap}
+pub use Rattle.undivided_run.specs.declared.state.Cap.the-variants.{Absent as absent, Given as given}
 -- One read is one probe: it is known by its pass, combination, key number and probe number.
-pub use Rattle.undivided_run.specs.declared.Position.{Position as Read}
+pub use Rattle.undivided_run.specs.declared.state.Position.{Position as Read}
 
 -- A cap already reached by the combinations tried so far.
 unfoldable pub reached : Cap → ℕ → Bool
@@ -26,9 +26,9 @@ pub record Feed (E C : Type 0) : Type 0 where
   -- how many centroids a pass, by its number, keeps
   pub kept : ℕ → ℕ
   -- how many keys a combination of a pass has
-  pub keys : ℕ → Four → ℕ
+  pub keys : ℕ → Combination → ℕ
   -- the home slot: of a pass, a combination and a key number
-  pub home : ℕ → Four → ℕ → ℕ
+  pub home : ℕ → Combination → ℕ → ℕ
   -- the table's slot count
   pub slots : ℕ
   -- the pattern count
@@ -38,7 +38,7 @@ pub record Feed (E C : Type 0) : Type 0 where
   -- the candidate that an entry gives at a read, where it passes the tests
   pub test : Read → E → Option C
   -- question 9 of an entry
-  pub sound : E → Bool
+  pub valid : E → Bool
 
 -- A run: its reads in order, and the status that ends it.
 pub record Run : Type 0 where
@@ -87,14 +87,14 @@ module _ {E C : Type 0} (F : Feed E C) where
   gives r = cases (F .entry (slotOf r)) none λ e. F .test r e
 
   -- The reads of key k from probe c on, `left` probes at most: the first empty slot ends the chain.
-  unfoldable pub chain : ℕ → Four → ℕ → ℕ → ℕ → List Read
+  unfoldable pub chain : ℕ → Combination → ℕ → ℕ → ℕ → List Read
   chain i q k zero c = []
   chain i q k (suc left) c =
       let r : Read = record { pass = i; four = q; key = k; probe = c } in
       r ∷ cond (filled r) (chain i q k left (suc c)) []
 
   -- The reads of a combination: its keys in order, each along its chain, probes 0 to slots − 1.
-  unfoldable pub readsOf : ℕ → Four → List Read
+  unfoldable pub readsOf : ℕ → Combination → List Read
   readsOf i q = each (upto 0 (F .keys i q)) λ k. chain i q k (F .slots) 0
 
   module _ (cap : Cap) where
@@ -103,7 +103,7 @@ module _ {E C : Type 0} (F : Feed E C) where
     checked tried run = cond (reached cap tried) (ended Timeout) run
 
     -- The combinations of pass i in order, `tried` before them; `rest` is the run after the pass.
-    unfoldable pub combinations : ℕ → List Four → (ℕ → Run) → ℕ → Run
+    unfoldable pub combinations : ℕ → List Combination → (ℕ → Run) → ℕ → Run
     combinations i [] rest tried = rest tried
     combinations i (q ∷ qs) rest tried =
         checked tried (readsOf i q before combinations i qs rest (suc tried))
@@ -117,7 +117,7 @@ module _ {E C : Type 0} (F : Feed E C) where
         (passesFrom left (suc i) TooFew tried)
         (cond (isZero (F .slots) || isZero (F .patterns))
         (passesFrom left (suc i) NoMatch tried)
-        (combinations i (fours (F .kept i)) (passesFrom left (suc i) NoMatch) tried)))
+        (combinations i (combinationList (F .kept i)) (passesFrom left (suc i) NoMatch) tried)))
 
     -- the undivided run: all passes, in order
     unfoldable pub undivided : Run

@@ -3,7 +3,7 @@ use mathlib.Core.Path.{_∙_, sym}
 use borrow.Author.Needs.{needs}
 use borrow.Author.Tests.{not-true, not-false}
 use Rattle.fov_sweep.proofs.Answers.{says-by}
-use Rattle.fov_sweep.proofs.Whole.{refused-12, refused-13, swept}
+use Rattle.fov_sweep.proofs.BuildFovSweep.{refused-12, refused-13, swept}
 use Rattle.fov_sweep.proofs.build_fov_sweep.Statement.{statement}
 use Rattle.fov_sweep.proofs.build_fov_sweep.Tie as tie
 

@@ -3,8 +3,8 @@ use Prim.Native.Nat.{_+_, _-_}
 use native.Mathlib.Omega.{arith}
 use borrow.Author.Needs.{needs}
 use borrow.Author.Tests.{not-true, not-false}
-use Rattle.float_order.specs.Value.{pi32}
-use Rattle.fov_sweep.proofs.Counting.{Counted, counted-start, counted-past, counted-out, counted-pi, counted-last, counted-on}
+use Rattle.numeric.specs.Value.{pi32}
+use Rattle.fov_sweep.proofs.CountValues.{Counted, counted-start, counted-past, counted-out, counted-pi, counted-last, counted-on}
 use Rattle.fov_sweep.proofs.Offsets.{pair-some, pair-few}
 use lib.Ieee.{lt, le, add, binary32}
 use Rattle.fov_sweep.proofs.count_values.Statement.{statement}

@@ -1,7 +1,7 @@
 -- `fov_sweep::pair_count` meets its contract. Assumes nothing.
 use mathlib.Core.Path.{sym, ap}
 use lib.ListN.{length}
-use Rattle.fov_sweep.proofs.Counting.{pair-two, pair-one}
+use Rattle.fov_sweep.proofs.CountValues.{pair-two, pair-one}
 use lib.Ieee.{ofBits}
 use Rattle.fov_sweep.proofs.pair_count.Statement.{statement}
 use Rattle.fov_sweep.proofs.pair_count.Tie as tie

@@ -4,10 +4,10 @@ use mathlib.Core.Path.{sym, ap}
 use native.Mathlib.Omega.{arith}
 use borrow.Author.Needs.{needs}
 use lib.ListN.{length}
-use Rattle.fov_sweep.proofs.Counting.{pair-two, pair-one}
+use Rattle.fov_sweep.proofs.CountValues.{pair-two, pair-one}
 use Rattle.fov_sweep.proofs.Offsets.{pair-some}
 use lib.Ieee.{ofBits}
-use Rattle.fov_sweep.proofs.Writing.{put-two, put-one}
+use Rattle.fov_sweep.proofs.WriteValues.{put-two, put-one}
 use lib.ListN.{length-set}
 use Rattle.fov_sweep.proofs.put_pair.Statement.{statement}
 use Rattle.fov_sweep.proofs.put_pair.Tie as tie

@@ -2,7 +2,7 @@
 use borrow.Author.Needs.{needs}
 use borrow.Author.Tests.{not-true, not-false}
 use lib.Ieee.{ofBits, lt}
-use Rattle.float_order.specs.Value.{zero32}
+use Rattle.numeric.specs.Value.{zero32}
 use Rattle.fov_sweep.proofs.reach_of.Statement.{statement}
 use Rattle.fov_sweep.proofs.reach_of.Tie as tie
 

@@ -5,7 +5,7 @@ use borrow.Author.Needs.{needs}
 use borrow.Author.Tests.{not-true, not-false}
 use Rattle.fov_sweep.specs.Sweep.{sweepFits}
 use lib.Ieee.{ofBits, lt}
-use Rattle.float_order.specs.Value.{zero32, pi32}
+use Rattle.numeric.specs.Value.{zero32, pi32}
 use lib.Ieee.Scale.{finite}
 use Rattle.fov_sweep.proofs.sweep_fits.Statement.{statement}
 use Rattle.fov_sweep.proofs.sweep_fits.Tie as tie

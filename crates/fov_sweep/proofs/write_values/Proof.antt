@@ -4,11 +4,11 @@ use mathlib.Core.Path.{sym, subst}
 use native.Mathlib.Omega.{arith}
 use borrow.Author.Tests.{not-true, not-false}
 use lib.ListN.{length}
-use Rattle.float_order.specs.Value.{pi32}
-use Rattle.fov_sweep.proofs.Counting.{out-of-reach, at-pi, a-pair, last-pair, next-pair}
+use Rattle.numeric.specs.Value.{pi32}
+use Rattle.fov_sweep.proofs.CountValues.{out-of-reach, at-pi, a-pair, last-pair, next-pair}
 use Rattle.fov_sweep.proofs.Offsets.{pair-some}
 use lib.Ieee.{lt, add, binary32}
-use Rattle.fov_sweep.proofs.Writing.{Written, written-start, start-length, all-written, none-left, written-last, at-most, pair-room, written-on}
+use Rattle.fov_sweep.proofs.WriteValues.{Written, written-start, start-length, all-written, none-left, written-last, at-most, pair-room, written-on}
 use lib.ListN.{set}
 use Rattle.fov_sweep.proofs.write_values.Statement.{statement}
 use Rattle.fov_sweep.proofs.write_values.Tie as tie

@@ -4,11 +4,11 @@ use Rattle.replay.proofs.main.Statement.{statement}
 use Rattle.replay.proofs.main.Tie as tie
 
 abbrev Inv-loop : tie.InvT-loop
-Inv-loop table₀ packed₀ stars₀ coords₀ places₀ triples₀ desk₀ n₀ table packed stars coords places triples desk n =
+Inv-loop table₀ packed₀ stars₀ coords₀ places₀ triples₀ inputs₀ n₀ table packed stars coords places triples inputs n =
     Unit {0}
 
 abbrev μ-loop : tie.MeasureT-loop
-μ-loop table₀ packed₀ stars₀ coords₀ places₀ triples₀ desk₀ n₀ table packed stars coords places triples desk n =
+μ-loop table₀ packed₀ stars₀ coords₀ places₀ triples₀ inputs₀ n₀ table packed stars coords places triples inputs n =
     18446744073709551615 - n
 
 no-bytes-requires : tie.Need-no-bytes-requires Inv-loop μ-loop

@@ -1,4 +1,4 @@
--- `root::digits` meets its contract: the float whose pattern it takes is below another, so it is no NaN.
+-- `square_root::digits` meets its contract: the float whose pattern it takes is below another, so it is no NaN.
 -- Assumes nothing.
 use borrow.Author.Needs.{needs}
 use Rattle.square_root.proofs.NoNan.{lt-no-nan}

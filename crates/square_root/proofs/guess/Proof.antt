@@ -1,4 +1,4 @@
--- `root::guess` meets its contract: the two patterns that it reads are no NaN's.
+-- `square_root::guess` meets its contract: the two patterns that it reads are no NaN's.
 -- Assumes nothing.
 use native.Mathlib.Omega.{arith}
 use borrow.Author.Needs.{needs}

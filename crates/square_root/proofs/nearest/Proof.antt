@@ -1,4 +1,4 @@
--- `root::nearest` meets its contract: what it tests of the guess is what it ensures. Assumes nothing.
+-- `square_root::nearest` meets its contract: what it tests of the guess is what it ensures. Assumes nothing.
 use native.Mathlib.Omega.{arith}
 use borrow.Author.Needs.{needs}
 use Rattle.square_root.proofs.Squares.{sq-small, root-low}

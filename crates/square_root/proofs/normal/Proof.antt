@@ -1,4 +1,4 @@
--- `root::normal` meets its contract. Assumes nothing.
+-- `square_root::normal` meets its contract. Assumes nothing.
 use Rattle.square_root.proofs.Values.{normal-root}
 use borrow.Author.Needs.{needs}
 use Rattle.square_root.proofs.normal.Statement.{statement}

@@ -1,4 +1,4 @@
--- `root::pattern` meets its contract: n is m * 2 ^ (23 + e % 2), by cases on e % 2. Assumes nothing.
+-- `square_root::pattern` meets its contract: n is m * 2 ^ (23 + e % 2), by cases on e % 2. Assumes nothing.
 use mathlib.Core.Path.{refl, subst}
 use Prim.Native.Nat.{ℕ, _%_}
 use native.Mathlib.Omega.{arith}

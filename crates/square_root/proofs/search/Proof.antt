@@ -1,4 +1,4 @@
--- `root::search` meets its contract. The invariant of its loop: lo - 1/2 is below the root of n, and hi + 1/2 is not. The measure is the interval's length.
+-- `square_root::search` meets its contract. The invariant of its loop: lo - 1/2 is below the root of n, and hi + 1/2 is not. The measure is the interval's length.
 -- Assumes nothing.
 use mathlib.Core.Path.{_≡_, subst}
 use Prim.Native.Nat.{ℕ, _+_, _-_, _*_, _/_, _≤_, _<_}

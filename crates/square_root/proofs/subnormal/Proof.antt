@@ -1,4 +1,4 @@
--- `root::subnormal` meets its contract: the shift leaves a number of 24 digits. Assumes nothing.
+-- `square_root::subnormal` meets its contract: the shift leaves a number of 24 digits. Assumes nothing.
 use mathlib.Core.Path.{subst}
 use Prim.Native.Nat.{ℕ, _-_}
 use native.Mathlib.Omega.{arith}

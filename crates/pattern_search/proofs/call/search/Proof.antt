@@ -2,7 +2,7 @@ use mathlib.Core.Path.{sym, _∙_, ap}
 use borrow.Author.Needs.{needs}
 use Rattle.search_feed.specs.Data.{frameOf, dataOf}
 use Rattle.search_questions.specs.Questions.{askedOf}
-use Rattle.pattern_search.proofs.Saying.{and-said}
+use Rattle.pattern_search.proofs.Answers.{and-said}
 use Rattle.pattern_search.proofs.Calling.{call-seven}
 use Rattle.pattern_search.proofs.call.search.Statement.{statement}
 use Rattle.pattern_search.proofs.call.search.Tie as tie

@@ -3,10 +3,10 @@ use Rattle.replay.proofs.answering.calls.Statement.{statement}
 use Rattle.replay.proofs.answering.calls.Tie as tie
 
 abbrev Inv-loop : tie.InvT-loop
-Inv-loop table packed stars coords places triples allowance now-at₀ turns₀ now-at turns = Unit {0}
+Inv-loop table packed stars coords places triples allowance now-at₀ rounds₀ now-at rounds = Unit {0}
 
 abbrev μ-loop : tie.MeasureT-loop
-μ-loop table packed stars coords places triples allowance now-at₀ turns₀ now-at turns = turns
+μ-loop table packed stars coords places triples allowance now-at₀ rounds₀ now-at rounds = rounds
 
 loop-holds : tie.Need-loop-holds Inv-loop μ-loop
 loop-holds c = search needs
@@ -17,8 +17,8 @@ call-requires c κs = search needs
 returns : tie.Need-returns Inv-loop μ-loop
 returns c = search needs
 
-sub-turns : tie.Need-sub-turns Inv-loop μ-loop
-sub-turns c = search needs
+sub-rounds : tie.Need-sub-rounds Inv-loop μ-loop
+sub-rounds c = search needs
 
 loop-less : tie.Need-loop-less Inv-loop μ-loop
 loop-less c = search needs
@@ -38,7 +38,7 @@ calls-spec =
     loop-holds
     call-requires
     returns
-    sub-turns
+    sub-rounds
     loop-less
     loop-again
     returns-2)

@@ -1,0 +1,4 @@
+// Functions exported for measuring only.
+pub mod entry;
+pub mod leaves;
+pub mod slices;

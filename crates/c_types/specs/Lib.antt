@@ -1,0 +1,5 @@
+pub mod Config
+pub mod State
+pub mod Candidate
+pub mod Answer
+pub mod Results

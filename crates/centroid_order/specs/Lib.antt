@@ -1,2 +1,0 @@
-pub mod CentroidOrder
-pub mod Claims

@@ -1,2 +1,0 @@
-pub mod Glancing
-pub mod Ways

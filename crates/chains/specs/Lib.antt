@@ -1,2 +1,0 @@
-pub mod Glances
-pub mod Chains

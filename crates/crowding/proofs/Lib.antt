@@ -1,2 +1,0 @@
-pub mod Crowds
-pub mod Columns

@@ -1,2 +1,0 @@
-pub mod Crowded
-pub mod Columns

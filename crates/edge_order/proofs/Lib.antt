@@ -1,4 +1,0 @@
-pub mod Insertion
-pub mod Sorting
-pub mod Carrying
-pub mod Above

@@ -1,2 +1,0 @@
-pub mod Sort
-pub mod Carried

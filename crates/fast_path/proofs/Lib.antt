@@ -1,0 +1,8 @@
+pub mod ValidStars
+pub mod SlotPeek
+pub mod ProbeChain
+pub mod SkipReads
+pub mod FilledHomes
+pub mod SkipStep
+pub mod Skippable
+pub mod SkippedReads

@@ -1,4 +1,0 @@
-pub mod Codes
-pub mod Order
-pub mod Valid
-pub mod Steps

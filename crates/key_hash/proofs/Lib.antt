@@ -1,2 +1,0 @@
-pub mod Hash
-pub mod Keys

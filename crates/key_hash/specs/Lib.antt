@@ -1,2 +1,0 @@
-pub mod Key
-pub mod Claims

@@ -1,3 +1,0 @@
-pub mod Image
-pub mod Cuts
-pub mod Two

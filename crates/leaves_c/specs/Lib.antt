@@ -1,1 +1,0 @@
--- The contracts of this crate cite the definitions of the leaves' own crates.

@@ -1,2 +1,0 @@
-pub mod Desks
-pub mod Beginning

@@ -1,0 +1,9 @@
+pub mod Value
+pub mod MinMax
+pub mod Interval
+pub mod Rising
+pub mod Ratios
+pub mod KeyPart
+pub mod Claims
+pub mod Magnitude
+pub mod Bytes

@@ -1,9 +1,0 @@
--- What each case of the opening check's enum says. Definitions only.
-use Prim.Native.Nat.{ℕ}
-use mathlib.Core.Option.{Option, none, some}
-use Rattle.opening.specs.declared.Opened.{Opened}
-
--- what `open_check` says: the number of the question that refuses, none where the table passed
-abbrev pub openedSays : Opened → Option ℕ
-openedSays Opened.Passed = none
-openedSays (Opened.Refused n) = some n

@@ -1,0 +1,2 @@
+pub mod OpenCheck
+pub mod Passed

@@ -1,0 +1,4 @@
+pub mod Answers
+pub mod OpenCheck
+pub mod Shortcuts
+pub mod Claims

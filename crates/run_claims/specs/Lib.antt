@@ -1,2 +1,0 @@
-pub mod Tried
-pub mod Listing

@@ -1,0 +1,3 @@
+pub mod AngleArray
+pub mod Cache
+pub mod CombinationKeys

@@ -1,0 +1,4 @@
+pub mod Ceiling
+pub mod SettingsLimits
+pub mod Joined
+pub mod PassLimits

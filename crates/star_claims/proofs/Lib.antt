@@ -1,4 +1,0 @@
-pub mod Tags
-pub mod Shown
-pub mod Calls
-pub mod Completing

@@ -1,2 +1,0 @@
-pub mod Tolerances
-pub mod Claims
