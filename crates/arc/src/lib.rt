@@ -1,4 +1,6 @@
 // The arc: what stands in for the arcsine, for h from 0 to 1.
+#![tactic(auto)]
+
 ghost use Rattle.std.specs.Prelude.{◌≡◌};
 ghost use Rattle.arc.specs.Arc.{rational, near_one, arc_of};
 

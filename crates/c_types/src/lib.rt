@@ -1,4 +1,6 @@
 // The structs of the C interface, and their conversion to and from the library's types.
+#![tactic(auto)]
+
 pub mod answer;
 pub mod candidate;
 pub mod config;

@@ -4,7 +4,7 @@
 // 1 for NoMatch and 2 for Timeout. The numbers from `pass` to `probe` name the next read, `four` being its combination's positions.
 // `patterns` counts the combinations tried and `reads` the reads made; `reserved` is padding.
 #[repr(C)]
-#[derive(Drop)]
+#[derive(Clone, Copy)]
 pub struct StarState {
     pub phase: u32,
     pub status: u32,

@@ -12,7 +12,7 @@ use preprocess::brightness_list::Place;
 use settings::tolerance::Tolerance;
 
 // What the image shows of a combination.
-#[derive(Drop)]
+#[derive(Clone, Copy)]
 pub struct Image {
     // The largest edge: the largest angle between two of the four spots, in radians.
     pub edge: f32,
@@ -21,7 +21,7 @@ pub struct Image {
 }
 
 // A candidate: four spots of the image that may be the four stars of a table entry. A table read gives it.
-#[derive(Drop)]
+#[derive(Clone, Copy)]
 pub struct Candidate {
     // The number of the pass, counted from 0.
     pub pass: u32,

@@ -32,7 +32,7 @@ use Rattle.undivided_run.specs.Calls.{candidate, over, refused, allowed, refusal
 use Rattle.search_feed.specs.Image.{keys_in, hash_in}
 use Rattle.search_feed.specs.Feed.{places_of, slot_at, entry_at, candidate_of, tested_at, if_hit, feed}
 use Rattle.cases.specs.Demand3Example.{settings, sample, given}
-use Rattle.cases.proofs.SampleImage.{four, edges_are, ratios_are, image, q, image_is, kept_all}
+use Rattle.cases.proofs.SampleImage.{edges_are, ratios_are, image, q, image_is, kept_all}
 
 -- ---- The three keys, whose hashes are 2, 1 and 0.
 abbrev keys : List (List ℕ)

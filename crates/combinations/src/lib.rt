@@ -1,11 +1,13 @@
 // The combinations of a pass: four positions in the kept list, strictly rising, listed by sum and within a sum lexicographically.
 // The next combination is worked out from the present one, in place of the source's heap and seen set.
+#![tactic(auto)]
+
 ghost use Rattle.std.specs.Prelude.{◌≡◌, ◌-◌, ◌≤◌, max};
 ghost use Rattle.combinations.specs.Combinations.{Rising};
 ghost use Rattle.combinations.specs.Successor.{with_a, with_b, with_c, from_sum, from_a, from_b, first_combination, next_combination, maybe_of};
 
 // Four positions in the kept list of a pass.
-#[derive(Drop)]
+#[derive(Clone, Copy)]
 pub struct Combination {
     pub a: u32,
     pub b: u32,

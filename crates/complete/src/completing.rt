@@ -8,7 +8,7 @@ use crate::question_14::{candidate_fits, four_valid};
 use candidates::entry_tests::Candidate;
 
 // The three components of a direction. It is a struct, since the toolchain writes no part of the proof for a field that is an array of arrays.
-#[derive(Drop)]
+#[derive(Clone, Copy)]
 pub struct Row {
     pub c: [f32; 3],
 }
@@ -75,8 +75,8 @@ pub fn complete(
     candidate: Candidate,
     scale: f32,
 ) -> Completed
-    ensures value { result ≡ completed_of centroids.now order.now passes.now stars.now candidate scale }
-    ensures result_value { completed_says result ≡ completing centroids.now order.now passes.now stars.now candidate scale }
+    ensures completed { result ≡ completed_of centroids.now order.now passes.now stars.now candidate scale }
+    ensures says { completed_says result ≡ completing centroids.now order.now passes.now stars.now candidate scale }
 {
     if !preprocess::unit_vectors::centroids_fit(centroids) {
         return refused(1);

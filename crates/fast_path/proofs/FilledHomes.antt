@@ -12,15 +12,13 @@ use lib.Seq.{get_or-set_same, get_or-set_other}
 use lib.Ieee.{Float}
 use mir.Val.{bool_byte}
 use borrow.Author.Tests.{ltb-true, ltb-false}
-use Rattle.pattern.specs.Key.{home_of, mark_of}
+use Rattle.pattern.specs.Key.{mark_of}
 use Rattle.pattern_catalog.specs.Blocks.{filled}
 use Rattle.search_feed.proofs.TableRead.{home_below}
 use Rattle.fast_path.specs.SlotPeek.{peek_of}
-use Rattle.fast_path.specs.ProbeChain.{along_chain}
 use Rattle.fast_path.specs.SkipReads.{along_key, skipped_reads}
 use Rattle.fast_path.specs.SkipStep.{home_at, EmptyHomes, start, FilledHomes}
 use Rattle.fast_path.specs.declared.probe_chain.SlotPeek.TheVariants.{Empty}
-use Rattle.fast_path.specs.declared.probe_chain.ChainResult.{ChainResult}
 use Rattle.fast_path.specs.declared.skip_reads.SkipResult.{SkipResult}
 use Rattle.fast_path.proofs.ProbeChain.{along_empty, along_used}
 use Rattle.fast_path.proofs.SkipReads.{skipped_reads_stop, skipped_reads_last, skipped_reads_next}

@@ -1,23 +1,19 @@
 -- The reads that `skip_reads` skips are valid and give no candidate, and they lead to a read of the same combination. Assumes nothing.
 use mathlib.Core.Path.{◌≡◌, refl, sym, subst, ◌∙◌}
-use Prim.Native.Nat.{ℕ, zero, suc, ◌+◌, ◌-◌, ◌*◌, ◌%◌, ◌≤◌, ◌<◌}
+use Prim.Native.Nat.{ℕ, zero, suc, ◌+◌, ◌-◌, ◌≤◌, ◌<◌}
 use native.Mathlib.Omega.{arith}
-use native.Mathlib.Numerals.{add-one}
 use mathlib.Core.Bool.{Bool, true, false, not, cond, ◌&&◌}
 use mathlib.Core.List.{List}
 use mathlib.Core.Option.{Option, none, some}
 use lib.Dec.{ltb, eqb}
 use lib.ListN.{get_or}
-use lib.Ieee.{Float}
 use borrow.Author.Tests.{ltb-true, ltb-false}
 use Rattle.pattern.specs.Key.{home_of, mark_of}
-use Rattle.pattern_entry.specs.Entry.{bytes_at, entry_read, mark_in}
+use Rattle.pattern_entry.specs.Entry.{bytes_at, mark_in}
 use Rattle.pattern_entry.specs.Validity.{entry_valid}
-use Rattle.pattern_entry.proofs.Every.{both_l, both_r}
 use Rattle.pattern_catalog.specs.Blocks.{filled as slotFilled, place}
 use Rattle.candidates.specs.EntryTests.{test_of}
 use Rattle.candidates.specs.declared.entry_tests.Tested.TheVariants.{PassedOver}
-use Rattle.combinations.specs.declared.Combination.{Combination}
 use Rattle.undivided_run.specs.declared.state.Position.{Position}
 use Rattle.undivided_run.specs.declared.state.Cap.{Cap}
 use Rattle.undivided_run.specs.declared.state.Next.{Next}

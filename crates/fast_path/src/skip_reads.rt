@@ -8,7 +8,7 @@ ghost use Rattle.fast_path.specs.SkipReads.{skipped_reads};
 ghost use Rattle.fast_path.specs.SkipStep.{FilledHomes, SkipStep};
 
 // Where skipping ends: the key and probe of the next read of the combination, and what is left of the allowance.
-#[derive(Drop)]
+#[derive(Clone, Copy)]
 pub struct SkipResult {
     pub key: u32,
     pub probe: u32,

@@ -3,7 +3,7 @@ ghost use Rattle.std.specs.Prelude.{◌≡◌, ◌≤◌, length};
 ghost use Rattle.fast_path.specs.ValidStars.{allowed_stars, validated_stars};
 
 // What a call knows of the star slice.
-#[derive(Drop)]
+#[derive(Clone, Copy)]
 pub struct ValidStars {
     // Set where no more stars are to be asked, since all were or an invalid one was met.
     pub asked: bool,

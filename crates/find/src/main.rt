@@ -1,11 +1,15 @@
 // Searches two bundled frames in a bundled table, or the frames of the replay stream in the file that its argument names, and reports what
 // each search does.
+#![tactic(auto)]
 
 mod bundled;
 mod recorded;
 
 use crate::recorded::report_stream;
 use search_report::report::{report_search, table_line, text};
+use std::env::Env;
+use std::fs::File;
+use std::os::fd::AsRawFd;
 use undivided_run::state::{Phase, State};
 
 // Searches a bundled frame and reports the search.
@@ -47,25 +51,29 @@ fn report_frames() {
     report_bundled(b"frame B: ", &spots_b, &order_b);
 }
 
+// Writes that the file can't be opened.
+fn unopened_line(path: &[u8]) {
+    text(b"can't open ");
+    text(path);
+    text(b"\n");
+}
+
 // Reports the searches of the replay stream in the file `path`.
-fn report_file(path: &[u8]) {
-    let fd = os::open_read(path);
-    if fd < 0 {
-        text(b"can't open ");
-        text(path);
-        text(b"\n");
-        return;
+fn report_file(rt: &HostRuntime, path: &[u8]) {
+    match std::str::from_utf8(path) {
+        Ok(name) => match File::open(rt, name) {
+            Ok(file) => report_stream(file.as_raw_fd()),
+            Err(_) => unopened_line(path),
+        },
+        Err(_) => unopened_line(path),
     }
-    report_stream(fd);
 }
 
 // Reports the bundled frames where there is no argument, else the stream in the file that the first argument names.
-fn main() {
-    if os::arg_count() < 2 {
-        report_frames();
-        return;
-    }
+fn main(rt: HostRuntime) {
     let mut path = io::buffer();
-    let n = os::arg(1, &mut path);
-    report_file(&path[..n]);
+    match rt.arg(1, &mut path) {
+        Ok(n) => report_file(&rt, &path[..n]),
+        Err(_) => report_frames(),
+    }
 }

@@ -1,4 +1,6 @@
 // The sweep: writes the fields of view to try around an estimate to a lent slice (the source's build_fov_sweep of pattern_search.rs).
+#![tactic(auto)]
+
 ghost use Rattle.std.specs.Prelude.{◌≡◌, ◌∷◌, ◌++◌, ◌+◌, ◌≤◌, min, length, take, drop};
 ghost use Rattle.fov_sweep.specs.Sweep.{sweep_fits, pair_at, pairs_from, swept_of, later_of};
 ghost use Rattle.fov_sweep.specs.Reach.{reach_of};
@@ -121,8 +123,8 @@ fn write_values(estimate: f32, reach: f32, step: f32, out: &mut [f32])
 // The sweep: writes the estimate, then estimate + offset and, if above 0, estimate − offset, for offsets a step apart. It asks questions 12
 // and 13 first: the list is counted before anything is written, so a refused sweep leaves the slice as it was.
 pub fn build_fov_sweep(estimate: f32, error: Tolerance, step: f32, out: &mut [f32]) -> Swept
-    ensures value { (result ≡ swept_of estimate error step (length out.old)) × (out.new ≡ later_of estimate error step out.old) }
-    ensures out_after { swept_says result out.new ≡ sweeping estimate error step (length out.old) }
+    ensures swept { (result ≡ swept_of estimate error step (length out.old)) × (out.new ≡ later_of estimate error step out.old) }
+    ensures says { swept_says result out.new ≡ sweeping estimate error step (length out.old) }
 {
     if !sweep_fits(estimate, error, step) {
         return Swept::Refused(12);

@@ -1,5 +1,8 @@
 // Writes the square roots and arcs of a few values, all by their bits: those of document 01's cases, and the roots of -0 and -1.
-use libc::STDOUT_FILENO;
+#![tactic(auto)]
+
+// The descriptor of standard output.
+const STDOUT_FILENO: i32 = 1;
 
 // Writes a name, the bits x and the bits of the result r.
 fn show(name: &[u8], x: u32, r: f32) {

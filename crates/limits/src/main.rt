@@ -1,10 +1,14 @@
 // Makes calls at the limits that document 01 names after its cases (256 centroids pass, 257 are refused with 1; 3 kept are TooFew, 4 are
 // tried), and calls that end with statuses which no recorded list shows, and writes what each call answers.
-use libc::STDOUT_FILENO;
+#![tactic(auto)]
+
 use pattern_search::{Answer, Searched};
 use search_feed::SearchConfig;
 use settings::tolerance::Tolerance;
 use undivided_run::state::{Cap, Phase, State, Status};
+
+// The descriptor of standard output.
+const STDOUT_FILENO: i32 = 1;
 
 // Writes the name of a status.
 fn status(s: Status) {

@@ -2,7 +2,7 @@
 -- Assumes nothing.
 use Prim.Native.Nat.{ℕ, zero, suc, ◌+◌, ◌-◌, ◌*◌, ◌/◌, ◌%◌, ◌≤◌, ◌<◌}
 use mathlib.Core.Path.{◌≡◌, refl, sym, ap, ap₂, ◌∙◌}
-use mathlib.Core.Bool.{Bool, true, false, cond, ◌&&◌, and_true}
+use mathlib.Core.Bool.{Bool, true, false, cond, ◌&&◌, and-true}
 use mathlib.Core.List.{List}
 use mathlib.Core.Option.{none, some}
 use native.Mathlib.Omega.{arith}
@@ -203,7 +203,7 @@ counted words g (suc n) =
   where
     by_bit : (b : ℕ) → bit_at words n ≡ b
         → (every (ones_in words 0 n) g && cond (filled words n) (g (ones_in words 0 n)) true) ≡ every (ones_in words 0 n + bit_at words n) g
-    by_bit zero e = rw (e, add-zero) (and_true (every (ones_in words 0 n) g))
+    by_bit zero e = rw (e, add-zero) (and-true (every (ones_in words 0 n) g))
     by_bit (suc zero) e = rw e (sym (every_suc (ones_in words 0 n) g))
     by_bit (suc (suc b)) e = absurd (omega (arith, bit_le words n))
 

@@ -102,8 +102,8 @@ pub fn slot_of(slots: u64, words: &[u64], packed: &[u8], slot: u64) -> Slot
 // The entry's own 22 bytes of the lent section, or an empty part of it.
 // The part is empty unless the slot read finds the slot filled.
 pub fn entry_of<'a>(slots: u64, words: &[u64], packed: &'a [u8], slot: u64) -> &'a [u8]
-    ensures result_value { result.now ≡ section_part packed.now (slot_read slots words.now packed.now slot) }
-    ensures ref_ptr_value { (result.ref_ptr.0 ≡ packed.entry.ref_ptr.0) × (result.ref_ptr.1 ≡ part_start (slot_read slots words.now packed.now slot) + packed.entry.ref_ptr.1) }
+    ensures bytes { result.now ≡ section_part packed.now (slot_read slots words.now packed.now slot) }
+    ensures place { (result.ref_ptr.0 ≡ packed.entry.ref_ptr.0) × (result.ref_ptr.1 ≡ part_start (slot_read slots words.now packed.now slot) + packed.entry.ref_ptr.1) }
 {
     match find(slots, words, packed, slot) {
         Found::At(p) => {

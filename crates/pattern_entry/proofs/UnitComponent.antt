@@ -1,7 +1,7 @@
 -- Two comparisons tell whether a float is finite and of magnitude at most 1. Assumes nothing.
 use Prim.Native.Nat.{ℕ, zero, suc, ◌+◌, ◌*◌}
 use mathlib.Core.Path.{◌≡◌, refl, sym, ap, ap₂, ◌∙◌}
-use mathlib.Core.Bool.{Bool, true, false, ◌&&◌, ◌||◌, and_true}
+use mathlib.Core.Bool.{Bool, true, false, ◌&&◌, ◌||◌, and-true}
 use native.Mathlib.Omega.{arith}
 use native.Mathlib.Nat.{mul-one, one-mul}
 use borrow.Author.Tests.{leb-true, leb-false, le-leb, eq-eqb, ne_eqb, eqb-true, eqb-false, lt-ltb, le-ltb}
@@ -36,7 +36,7 @@ unfolding le
 within true m e =
     let d = down_pos e in
     let p = lt-ltb 0 (m * up e * 1 + 1 * down e) (omega arith) in
-    rw p (and_true _ ∙ at_most (m * up e * 1) (1 * down e) _ (swap (m * up e * 1) (1 * down e)) ∙ ap₂ leb (mul-one (m * up e)) (one-mul (down e)))
+    rw p (and-true _ ∙ at_most (m * up e * 1) (1 * down e) _ (swap (m * up e * 1) (1 * down e)) ∙ ap₂ leb (mul-one (m * up e)) (one-mul (down e)))
 within false m e =
     let d = down_pos e in
     let p = lt-ltb 0 (1 * down e + m * up e * 1) (omega arith) in

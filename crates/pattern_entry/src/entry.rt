@@ -5,7 +5,7 @@ ghost use Rattle.pattern_entry.specs.Entry.{word_at, half_at, mark_in, entry_rea
 use crate::stars::StarIndex;
 
 // An entry of the packed section.
-#[derive(Drop)]
+#[derive(Clone, Copy)]
 pub struct PatternEntry {
     pub stars: [StarIndex; 4],
     // The largest edge of the stored pattern, an angle in radians.

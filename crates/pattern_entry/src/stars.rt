@@ -4,7 +4,7 @@ ghost use Rattle.pattern_entry.specs.Stars.{stars_fit, unit, star_valid};
 ghost use Rattle.pattern_entry.specs.StarsShortcuts.{every_star};
 
 // The index of a star in the star slice.
-#[derive(Drop)]
+#[derive(Clone, Copy)]
 pub struct StarIndex(pub u32);
 
 // Asks question 7: "Is the star slice a multiple of 3 long, at most 3·2^20?"

@@ -26,7 +26,6 @@ use Rattle.undivided_run.specs.declared.state.Status.{Status}
 use Rattle.undivided_run.specs.declared.state.Cap.{Cap}
 use Rattle.undivided_run.specs.declared.state.Next.TheVariants.{Goes as goes, Ends as ends}
 use Rattle.undivided_run.specs.Undivided.{cases, is_some, filled, gives, slot_of}
-use Rattle.undivided_run.specs.Calls.{candidate}
 use Rattle.undivided_run.specs.Step.{phase_of, valid_at}
 use Rattle.undivided_run.specs.PositionExists.{ReadExists}
 use Rattle.undivided_run.specs.CallInvariant.{continuing, after_read}

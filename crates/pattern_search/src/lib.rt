@@ -1,4 +1,6 @@
 // The search call: questions, then reads of the table up to the allowance, from the state received to the state left.
+#![tactic(auto)]
+
 mod call;
 mod reading;
 
@@ -8,7 +10,7 @@ use search_cache::pass::Cache;
 use undivided_run::state::{Cursor, State, Status};
 
 // What a call answers. The candidate stands beside it.
-#[derive(Drop)]
+#[derive(Clone, Copy)]
 pub enum Answer {
     Candidate,
     AllowanceUsed,
@@ -17,7 +19,7 @@ pub enum Answer {
 }
 
 // A call's answer, its candidate (all zero where none is given) and the state it leaves.
-#[derive(Drop)]
+#[derive(Clone, Copy)]
 pub struct Searched {
     pub answer: Answer,
     pub candidate: Candidate,

@@ -5,7 +5,7 @@ ghost use Rattle.preprocess.specs.BrightnessList.{order_fits, all_below, among, 
 use crate::unit_vectors::CentroidIndex;
 
 // A place in the brightness list.
-#[derive(Drop)]
+#[derive(Clone, Copy)]
 pub struct Place(pub u32);
 
 // Returns whether each of the indices is below n.

@@ -2,13 +2,15 @@
 use candidates::entry_tests::Candidate;
 use complete::completing::{Completed, Completion, Row};
 use fov_sweep::Swept;
-use libc::STDOUT_FILENO;
 use opening_check::open_check::Opened;
 use pattern_catalog::slot_read::Slot;
 use pattern_entry::stars::StarIndex;
 use pattern_search::{Answer, Searched};
 use preprocess::brightness_list::Place;
 use undivided_run::state::{State, Status};
+
+// The descriptor of standard output.
+const STDOUT_FILENO: i32 = 1;
 
 // Writes text as it stands.
 fn text(t: &[u8]) {

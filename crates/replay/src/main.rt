@@ -1,15 +1,18 @@
 // Reads a recorded stream from standard input, makes the calls that its records ask for, and writes a line for each answer.
+#![tactic(auto)]
 
 mod answering;
 mod lines;
 
 use crate::answering::{calls, complete_record, one_call, open_record, slot_record, sweep_record};
 use crate::lines::stream_line;
-use libc::STDIN_FILENO;
 use stream::lent::{first_bytes, first_floats, first_longs, first_words};
 use stream::next_record::Coming;
 use stream::records::{Inputs, Record, Request};
 use stream::words::Words;
+
+// The descriptor of standard input.
+const STDIN_FILENO: i32 = 0;
 
 // What a record leaves: whether the stream goes on after it, and the inputs after it.
 #[derive(Drop)]

@@ -90,8 +90,8 @@ fn cached_at(geometry: &[f32; 2208], i: u32, j: u32) -> f32
 
 // Returns whether six angles that were looked up are all worked out, which is to say not below 0.
 fn all_known(v: [f32; 6]) -> bool
-    ensures zero32_value { result ≡ true → (k : ℕ) → k < 6 → lt (get_or v k nan) zero32 ≡ false }
-    ensures by_index { result ≡ false → (k : ℕ) × ((k < 6) × (lt (get_or v k nan) zero32 ≡ true)) }
+    ensures known { result ≡ true → (k : ℕ) → k < 6 → lt (get_or v k nan) zero32 ≡ false }
+    ensures unknown { result ≡ false → (k : ℕ) × ((k < 6) × (lt (get_or v k nan) zero32 ≡ true)) }
 {
     let mut i = 0;
     while i < 6 {
@@ -120,8 +120,8 @@ fn cached_six(geometry: &[f32; 2208], q: Combination) -> [f32; 6]
 // The six angles, those not cached yet worked out from the four directions, and stored.
 fn compute_six(geometry: &mut [f32; 2208], q: Combination, kept: [f32; 6]) -> [f32; 6]
     requires { Rising 64 q × AnglesCached (suc q.d) geometry.old × (length geometry.old ≡ 2208) × (kept ≡ six_in geometry.old q) }
-    ensures value { result ≡ angles (four_at geometry.old q) }
-    ensures same_directions { SameDirections geometry.old geometry.new }
+    ensures six { result ≡ angles (four_at geometry.old q) }
+    ensures directions { SameDirections geometry.old geometry.new }
 {
     let v = four_at(&*geometry, q);
     let six = edge_angles(v, kept);
@@ -137,8 +137,8 @@ fn compute_six(geometry: &mut [f32; 2208], q: Combination, kept: [f32; 6]) -> [f
 // Returns the angles of the six pairs of four positions, in the source's order, and stores those that the array did not have.
 pub fn six_angles(geometry: &mut [f32; 2208], q: Combination) -> [f32; 6]
     requires { Rising 64 q × AnglesCached (suc q.d) geometry.old × (length geometry.old ≡ 2208) }
-    ensures value { result ≡ angles (four_at geometry.old q) }
-    ensures same_directions { SameDirections geometry.old geometry.new }
+    ensures six { result ≡ angles (four_at geometry.old q) }
+    ensures directions { SameDirections geometry.old geometry.new }
 {
     let kept = cached_six(&*geometry, q);
     if all_known(kept) {

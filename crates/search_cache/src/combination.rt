@@ -73,8 +73,8 @@ pub fn load_combination(
     hashes: &mut [u64; 1024],
 ) -> Cache
     requires { (settings_ok config ≡ true) × Rising cached.kept four × AnglesCached cached.kept geometry.old × Directions (four_at geometry.old four) × (length geometry.old ≡ 2208) × (length hashes.old ≡ 1024) }
-    ensures loaded_combination { (F : Frame) → F.config ≡ config → CombinationCacheValid F cached hashes.old → directions_of F cached.pass four ≡ four_at geometry.old four → LoadedCombination F cached.pass four result hashes.new }
-    ensures present_value { (result.present ≡ cached.present) × (result.pass ≡ cached.pass) × (result.kept ≡ cached.kept) × (length hashes.new ≡ 1024) × SameDirections geometry.old geometry.new }
+    ensures loaded { (F : Frame) → F.config ≡ config → CombinationCacheValid F cached hashes.old → directions_of F cached.pass four ≡ four_at geometry.old four → LoadedCombination F cached.pass four result hashes.new }
+    ensures rest { (result.present ≡ cached.present) × (result.pass ≡ cached.pass) × (result.kept ≡ cached.kept) × (length hashes.new ≡ 1024) × SameDirections geometry.old geometry.new }
 {
     if cached.keyed {
         let loaded = cached.four;

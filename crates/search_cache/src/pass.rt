@@ -10,7 +10,7 @@ use combinations::Combination;
 use search_feed::SearchConfig;
 
 // What the arrays of a call hold: the kept list of a pass if `present` is true, and the keys of a combination of that pass if `keyed` is true.
-#[derive(Drop)]
+#[derive(Clone, Copy)]
 pub struct Cache {
     // Whether `places` and `geometry` are loaded for a pass.
     pub present: bool,
@@ -76,8 +76,8 @@ pub fn rebuild_pass(
     geometry: &mut [f32; 2208],
 ) -> Cache
     requires { FrameFits (frame_of centroids.now order.now config passes.now) × (length places.old ≡ 64) × (length geometry.old ≡ 2208) × (pass < length passes.now / 3) }
-    ensures loaded_pass { LoadedPass (frame_of centroids.now order.now config passes.now) pass result places.new geometry.new }
-    ensures by_index { (l : List ℕ) → length l ≡ 1024 → CombinationCacheValid (frame_of centroids.now order.now config passes.now) result l }
+    ensures loaded { LoadedPass (frame_of centroids.now order.now config passes.now) pass result places.new geometry.new }
+    ensures combination { (l : List ℕ) → length l ≡ 1024 → CombinationCacheValid (frame_of centroids.now order.now config passes.now) result l }
 {
     let p = settings::passes::pass_at(passes, pass);
     let mut dirs = no_directions();
@@ -117,8 +117,8 @@ pub fn load_pass(
     geometry: &mut [f32; 2208],
 ) -> Cache
     requires { FrameFits (frame_of centroids.now order.now config passes.now) × PassCacheValid (frame_of centroids.now order.now config passes.now) cached places.old geometry.old × (pass < length passes.now / 3) }
-    ensures loaded_pass { LoadedPass (frame_of centroids.now order.now config passes.now) pass result places.new geometry.new }
-    ensures by_index { (l : List ℕ) → CombinationCacheValid (frame_of centroids.now order.now config passes.now) cached l → CombinationCacheValid (frame_of centroids.now order.now config passes.now) result l }
+    ensures loaded { LoadedPass (frame_of centroids.now order.now config passes.now) pass result places.new geometry.new }
+    ensures combination { (l : List ℕ) → CombinationCacheValid (frame_of centroids.now order.now config passes.now) cached l → CombinationCacheValid (frame_of centroids.now order.now config passes.now) result l }
 {
     if cached.present {
         if cached.pass == pass {

@@ -1,4 +1,6 @@
 // The settings of a search (SearchConfig) and one read of the table (read_slot). What the undivided run is fed is in specs/Feed.antt.
+#![tactic(auto)]
+
 ghost use Rattle.std.specs.Prelude.{◌≡◌, true, ◌+◌, ◌*◌, ◌%◌, ◌≤◌, ◌<◌, length, get_or};
 ghost use Rattle.pattern_catalog.specs.Blocks.{table_fits};
 ghost use Rattle.pattern_entry.specs.Entry.{bytes_at};
@@ -15,7 +17,7 @@ use undivided_run::state::{Cap, Position};
 
 // The settings of a search. In the source's names: pattern_bins, pattern_checking_stars, pattern_max_error, match_radius,
 // match_max_error, fov_max_error_rad, max_patterns_checked, num_patterns.
-#[derive(Drop)]
+#[derive(Clone, Copy)]
 pub struct SearchConfig {
     pub bins: u32,
     pub checking: u32,
@@ -28,7 +30,7 @@ pub struct SearchConfig {
 }
 
 // What one read sees.
-#[derive(Drop)]
+#[derive(Clone, Copy)]
 pub enum ReadOutcome {
     Empty,
     Invalid,

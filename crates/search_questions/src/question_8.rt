@@ -59,8 +59,8 @@ fn position_exists(
     hashes: &mut [u64; 1024],
 ) -> Question8Answer
     requires { FrameFits (frame_of centroids.now order.now config passes.now) × PassCacheValid (frame_of centroids.now order.now config passes.now) cached places.old geometry.old × CombinationCacheValid (frame_of centroids.now order.now config passes.now) cached hashes.old }
-    ensures by_index { (w e : List ℕ) (s : List Float) → result.fits ≡ position_exists (feed (data_of (frame_of centroids.now order.now config passes.now) slots w e s)) p }
-    ensures pass_cache_valid { PassCacheValid (frame_of centroids.now order.now config passes.now) result.cached places.new geometry.new × CombinationCacheValid (frame_of centroids.now order.now config passes.now) result.cached hashes.new }
+    ensures fits { (w e : List ℕ) (s : List Float) → result.fits ≡ position_exists (feed (data_of (frame_of centroids.now order.now config passes.now) slots w e s)) p }
+    ensures caches { PassCacheValid (frame_of centroids.now order.now config passes.now) result.cached places.new geometry.new × CombinationCacheValid (frame_of centroids.now order.now config passes.now) result.cached hashes.new }
 {
     if config.patterns == 0 {
         return Question8Answer {
@@ -113,8 +113,8 @@ pub fn state_fits(
     hashes: &mut [u64; 1024],
 ) -> Question8Answer
     requires { FrameFits (frame_of centroids.now order.now config passes.now) × PassCacheValid (frame_of centroids.now order.now config passes.now) cached places.old geometry.old × CombinationCacheValid (frame_of centroids.now order.now config passes.now) cached hashes.old }
-    ensures by_index { (w e : List ℕ) (s : List Float) → result.fits ≡ phase_fits (feed (data_of (frame_of centroids.now order.now config passes.now) slots w e s)) st.phase st.patterns st.reads }
-    ensures pass_cache_valid { PassCacheValid (frame_of centroids.now order.now config passes.now) result.cached places.new geometry.new × CombinationCacheValid (frame_of centroids.now order.now config passes.now) result.cached hashes.new }
+    ensures fits { (w e : List ℕ) (s : List Float) → result.fits ≡ phase_fits (feed (data_of (frame_of centroids.now order.now config passes.now) slots w e s)) st.phase st.patterns st.reads }
+    ensures caches { PassCacheValid (frame_of centroids.now order.now config passes.now) result.cached places.new geometry.new × CombinationCacheValid (frame_of centroids.now order.now config passes.now) result.cached hashes.new }
 {
     let phase = st.phase;
     match phase {

@@ -4,10 +4,6 @@ use Prim.Native.Nat.{ℕ, zero, suc, ◌-◌, ◌<◌, ◌≤◌}
 use native.Mathlib.Omega.{arith}
 use mathlib.Core.Bool.{Bool, true, false, false≢true}
 use mathlib.Core.Option.{Option, none, some}
-use mathlib.Core.List.{[], ◌∷◌}
-use types.Run.{OneOf, miss}
-use denote.Enum.Declared.{tag_of}
-use Rattle.pattern_search.specs.contracts.Answer.{the_type}
 use Rattle.pattern_search.specs.declared.Searched.{Searched}
 use Rattle.pattern_search.specs.declared.Answer.{Answer as Said}
 use Rattle.pattern_search.specs.declared.Answer.TheVariants.{Candidate, AllowanceUsed, Ended, Refused}
@@ -31,15 +27,12 @@ zero_through st (Goes r) = refl
 zero_through st (Ends s) = refl
 
 -- An answer other than `Refused` is that of a call which was let through.
-pub others_through : (a : Said) → OneOf (0 ∷ 1 ∷ 2 ∷ []) (tag_of the_type a) → let_through a ≡ true
+pub others_through : (a : Said) → ((n : ℕ) → a ≡ Refused n → ⊥) → let_through a ≡ true
 unfolding let_through
 others_through Candidate h = refl
 others_through AllowanceUsed h = refl
 others_through (Ended s) h = refl
-others_through (Refused n) h = absurd (none_of h)
-  where
-    none_of : OneOf (0 ∷ 1 ∷ 2 ∷ []) 3 → ⊥
-    none_of h = miss (0 ∷ 1 ∷ 2 ∷ []) 3 tt h
+others_through (Refused n) h = absurd (h n refl)
 
 -- What a call answers and leaves, by the number of the first no among questions 1 to 8.
 abbrev answered : Data → State → ℕ → Option ℕ → Answer Found × State

@@ -1,4 +1,6 @@
 // Makes a search and writes in words what it does.
+#![tactic(auto)]
+
 mod calls;
 mod frame_lines;
 mod lines;

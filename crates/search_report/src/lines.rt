@@ -1,11 +1,13 @@
 // Writes the words and numbers that the lines of a report are made of.
 use candidates::entry_tests::Candidate;
 use combinations::Combination;
-use libc::STDOUT_FILENO;
 use opening_check::open_check::Opened;
 use pattern_entry::stars::StarIndex;
 use preprocess::brightness_list::Place;
 use undivided_run::state::{Position, State, Status};
+
+// The descriptor of standard output.
+const STDOUT_FILENO: i32 = 1;
 
 // Writes text as it stands.
 pub fn text(t: &[u8]) {

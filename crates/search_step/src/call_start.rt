@@ -26,8 +26,8 @@ pub fn start_call(
     geometry: &mut [f32; 2208],
 ) -> Reached
     requires { FrameFits (frame_of centroids.now order.now config passes.now) × PassCacheValid (frame_of centroids.now order.now config passes.now) cached places.old geometry.old }
-    ensures by_index { (w e : List ℕ) (s : List Float) → result.next ≡ resume (first_read (feed (data_of (frame_of centroids.now order.now config passes.now) slots w e s)) config.cap) st.phase }
-    ensures cache_after { CacheAfter (frame_of centroids.now order.now config passes.now) cached result.cached places.new geometry.new }
+    ensures next { (w e : List ℕ) (s : List Float) → result.next ≡ resume (first_read (feed (data_of (frame_of centroids.now order.now config passes.now) slots w e s)) config.cap) st.phase }
+    ensures caches { CacheAfter (frame_of centroids.now order.now config passes.now) cached result.cached places.new geometry.new }
 {
     let phase = st.phase;
     match phase {

@@ -35,8 +35,8 @@ pub fn to_pass(
     geometry: &mut [f32; 2208],
 ) -> Reached
     requires { FrameFits (frame_of centroids.now order.now config passes.now) × PassCacheValid (frame_of centroids.now order.now config passes.now) cached places.old geometry.old × (from ≤ length passes.now / 3) }
-    ensures by_index { (w p : List ℕ) (s : List Float) → result.next ≡ to_pass (feed (data_of (frame_of centroids.now order.now config passes.now) slots w p s)) config.cap (length passes.now / 3 - from) from status tried }
-    ensures cache_after { CacheAfter (frame_of centroids.now order.now config passes.now) cached result.cached places.new geometry.new }
+    ensures next { (w p : List ℕ) (s : List Float) → result.next ≡ to_pass (feed (data_of (frame_of centroids.now order.now config passes.now) slots w p s)) config.cap (length passes.now / 3 - from) from status tried }
+    ensures caches { CacheAfter (frame_of centroids.now order.now config passes.now) cached result.cached places.new geometry.new }
 {
     let n = (passes.len() / 3) as u32;
     let cap = config.cap;

@@ -28,8 +28,8 @@ fn after_combination(
     geometry: &mut [f32; 2208],
 ) -> Reached
     requires { FrameFits (frame_of centroids.now order.now config passes.now) × LoadedRead (frame_of centroids.now order.now config passes.now) slots cached p places.old geometry.old }
-    ensures by_index { (w e : List ℕ) (s : List Float) → result.next ≡ after_combination (feed (data_of (frame_of centroids.now order.now config passes.now) slots w e s)) config.cap p.pass p.four tried }
-    ensures cache_after { CacheAfter (frame_of centroids.now order.now config passes.now) cached result.cached places.new geometry.new }
+    ensures next { (w e : List ℕ) (s : List Float) → result.next ≡ after_combination (feed (data_of (frame_of centroids.now order.now config passes.now) slots w e s)) config.cap p.pass p.four tried }
+    ensures caches { CacheAfter (frame_of centroids.now order.now config passes.now) cached result.cached places.new geometry.new }
 {
     let four = p.four;
     match four.next(cached.kept) {
@@ -70,8 +70,8 @@ fn after_key(
     geometry: &mut [f32; 2208],
 ) -> Reached
     requires { FrameFits (frame_of centroids.now order.now config passes.now) × LoadedRead (frame_of centroids.now order.now config passes.now) slots cached p places.old geometry.old }
-    ensures by_index { (w e : List ℕ) (s : List Float) → result.next ≡ after_key (feed (data_of (frame_of centroids.now order.now config passes.now) slots w e s)) config.cap p.pass p.four p.key tried }
-    ensures cache_after { CacheAfter (frame_of centroids.now order.now config passes.now) cached result.cached places.new geometry.new }
+    ensures next { (w e : List ℕ) (s : List Float) → result.next ≡ after_key (feed (data_of (frame_of centroids.now order.now config passes.now) slots w e s)) config.cap p.pass p.four p.key tried }
+    ensures caches { CacheAfter (frame_of centroids.now order.now config passes.now) cached result.cached places.new geometry.new }
 {
     if p.key + 1 < cached.keys {
         return Reached {
@@ -99,8 +99,8 @@ pub fn after(
     geometry: &mut [f32; 2208],
 ) -> Reached
     requires { FrameFits (frame_of centroids.now order.now config passes.now) × LoadedRead (frame_of centroids.now order.now config passes.now) slots cached p places.old geometry.old }
-    ensures by_index { (w e : List ℕ) (s : List Float) → full ≡ filled (feed (data_of (frame_of centroids.now order.now config passes.now) slots w e s)) p → result.next ≡ next_read (feed (data_of (frame_of centroids.now order.now config passes.now) slots w e s)) config.cap p tried }
-    ensures cache_after { CacheAfter (frame_of centroids.now order.now config passes.now) cached result.cached places.new geometry.new }
+    ensures next { (w e : List ℕ) (s : List Float) → full ≡ filled (feed (data_of (frame_of centroids.now order.now config passes.now) slots w e s)) p → result.next ≡ next_read (feed (data_of (frame_of centroids.now order.now config passes.now) slots w e s)) config.cap p tried }
+    ensures caches { CacheAfter (frame_of centroids.now order.now config passes.now) cached result.cached places.new geometry.new }
 {
     if full {
         if ((p.probe + 1) as u64) < slots {

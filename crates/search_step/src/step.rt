@@ -34,8 +34,8 @@ pub fn step(
     geometry: &mut [f32; 2208],
 ) -> Stepped
     requires { FrameFits (frame_of centroids.now order.now config passes.now) × LoadedRead (frame_of centroids.now order.now config passes.now) slots cached p places.old geometry.old × (cursor.patterns < 9223372036854775808) × (cursor.reads < 9223372036854775808) }
-    ensures by_index { (w e : List ℕ) (s : List Float) → full ≡ filled (feed (data_of (frame_of centroids.now order.now config passes.now) slots w e s)) p → result.cursor ≡ after_read (feed (data_of (frame_of centroids.now order.now config passes.now) slots w e s)) config.cap cursor p }
-    ensures cache_after { CacheAfter (frame_of centroids.now order.now config passes.now) cached result.cached places.new geometry.new }
+    ensures cursor { (w e : List ℕ) (s : List Float) → full ≡ filled (feed (data_of (frame_of centroids.now order.now config passes.now) slots w e s)) p → result.cursor ≡ after_read (feed (data_of (frame_of centroids.now order.now config passes.now) slots w e s)) config.cap cursor p }
+    ensures caches { CacheAfter (frame_of centroids.now order.now config passes.now) cached result.cached places.new geometry.new }
 {
     let n = p.count(cursor.patterns);
     let reached = crate::next_read::after(

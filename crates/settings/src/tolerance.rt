@@ -3,7 +3,7 @@ ghost use Rattle.std.specs.Prelude.{◌≡◌, ◌≤◌};
 ghost use Rattle.settings.specs.Tolerance.{option_fits, wanted_of, tolerance_of};
 
 // A float that is present with its value or absent: match_max_error and fov_max_error_rad.
-#[derive(Drop)]
+#[derive(Clone, Copy)]
 pub enum Tolerance {
     Given(f32),
     Absent,

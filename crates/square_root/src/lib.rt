@@ -1,4 +1,6 @@
 // The square root of an f32, rounded to the nearest f32. It is worked out in whole numbers; a guess in f64 saves most of the time and is tested.
+#![tactic(auto)]
+
 ghost use Rattle.std.specs.Prelude.{◌≡◌, ◌+◌, ◌*◌, ◌≤◌, ◌<◌, T};
 ghost use Rattle.std.specs.Float.{binary32};
 ghost use Rattle.std.specs.Float.Ieee.{of_bits};

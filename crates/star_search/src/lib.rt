@@ -1,2 +1,4 @@
 // The C interface. specs/ states what a host may rely on.
+#![tactic(auto)]
+
 pub mod exports;

@@ -1,4 +1,6 @@
 // The recorded lists: the format of a stream, and how the next record is read from it.
+#![tactic(auto)]
+
 mod from_words;
 mod inputs;
 pub mod lent;

@@ -8,7 +8,7 @@ use search_feed::SearchConfig;
 use undivided_run::state::State;
 
 // The table: its slot count, and how many words, packed bytes and star floats it has. Their values are in the lent arrays.
-#[derive(Drop)]
+#[derive(Clone, Copy)]
 pub struct Table {
     pub slots: u64,
     pub words: u32,
@@ -17,7 +17,7 @@ pub struct Table {
 }
 
 // The frame: how many coordinates, indices in the brightness list and floats of pass triples it has. Their values are in the lent arrays.
-#[derive(Drop)]
+#[derive(Clone, Copy)]
 pub struct Frame {
     pub coords: u32,
     pub places: u32,
@@ -25,7 +25,7 @@ pub struct Frame {
 }
 
 // The inputs, which are what the records so far have set: how much of each lent array is in use, the settings and the state.
-#[derive(Drop)]
+#[derive(Clone, Copy)]
 pub struct Inputs {
     pub table: Table,
     pub frame: Frame,

@@ -4,7 +4,7 @@ ghost use Rattle.stream.specs.Words.{long_of, words_of, table_size, frame_size, 
 
 // The first words of a payload; words that it doesn't have are 0. They are fields and not an array, since a proof reads a field at a quarter of
 // the cost of an array's element.
-#[derive(Drop)]
+#[derive(Clone, Copy)]
 pub struct Words {
     pub w0: u32,
     pub w1: u32,

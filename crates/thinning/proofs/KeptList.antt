@@ -1,12 +1,12 @@
 -- Laws of thinning: the kept list grows place by place. Assumes nothing.
-use mathlib.Core.Path.{◌≡◌, refl, sym, ap, ap₂, ◌∙◌, subst}
+use mathlib.Core.Path.{◌≡◌, refl, sym, ap, ap₂, ◌∙◌}
 use Prim.Native.Nat.{ℕ, zero, suc, ◌+◌, ◌-◌, ◌≤◌, ◌<◌}
 use native.Mathlib.Omega.{arith}
 use mathlib.Core.Bool.{true, false, cond}
 use mathlib.Core.List.{List, [], ◌∷◌, ◌++◌, map, append_assoc, append-nil}
 use native.Mathlib.Nat.{zero-add, suc-add}
-use lib.ListN.{length, take, drop, set, length-append, length-take, length-set, length-map, take-append-drop}
-use lib.Seq.{take-suc, take-suc-set, take-append_seam, take-add, take_all}
+use lib.ListN.{length, take, set, length-append, length-set}
+use lib.Seq.{take-suc-set, take-append_seam, take_all}
 use lib.Ieee.{Float}
 use Rattle.thinning.specs.KeptList.{thinned, kept_of, Kept}
 use Rattle.thinning.specs.Separation.{too_close}

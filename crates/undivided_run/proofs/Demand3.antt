@@ -297,7 +297,7 @@ module _ {E C : Type 0} (F : Feed E C) (cap : Cap) where
     calls_agree st mc [] fair h = (refl, h)
     calls_agree st mc (x ∷ xs) fair h =
         let e : Agree (search_call st x) (machine (gives F) run mc (fed_for (refusal_of st x) x.allowance)) = rw (fed_right st x) at (call_agrees st mc x fair.0 h) in
-        let es = calls_agree _ _ xs fair.1 e.1 in
+        let es = calls_agree (search_call st x).1 (machine (gives F) run mc (fed_for (refusal_of st x) x.allowance)).1 xs fair.1 e.1 in
         (ap₂ ◌∷◌ e.0 es.0, es.1)
 
   -- ---- What a list leaves: the state's counts and phase are those of the machine.

@@ -8,7 +8,7 @@ ghost use Rattle.undivided_run.specs.Moves.{first_of, probed, keyed, at_key, to_
 use combinations::Combination;
 
 // The status that ends a run: Timeout where the cap was reached, TooFew where the last pass keeps fewer than 4 spots, else NoMatch.
-#[derive(Drop)]
+#[derive(Clone, Copy)]
 pub enum Status {
     TooFew,
     NoMatch,
@@ -16,14 +16,14 @@ pub enum Status {
 }
 
 // The most combinations that a run may try, where there is such a limit.
-#[derive(Drop)]
+#[derive(Clone, Copy)]
 pub enum Cap {
     Given(u64),
     Absent,
 }
 
 // One read of the table: probe number `probe` of key number `key` of the combination `four` of pass number `pass`.
-#[derive(Drop)]
+#[derive(Clone, Copy)]
 pub struct Position {
     pub pass: u32,
     pub four: Combination,
@@ -32,14 +32,14 @@ pub struct Position {
 }
 
 // The next read, or the status that ends the run.
-#[derive(Drop)]
+#[derive(Clone, Copy)]
 pub enum Next {
     Goes(Position),
     Ends(Status),
 }
 
 // The phase of a search between two calls: fresh, ended with its status, or at its next read.
-#[derive(Drop)]
+#[derive(Clone, Copy)]
 pub enum Phase {
     Fresh,
     Ended(Status),
@@ -47,7 +47,7 @@ pub enum Phase {
 }
 
 // The search state, which goes into each call and comes back changed: the phase, the combinations tried (`patterns`) and the reads made.
-#[derive(Drop)]
+#[derive(Clone, Copy)]
 pub struct State {
     pub phase: Phase,
     pub patterns: u64,
@@ -55,7 +55,7 @@ pub struct State {
 }
 
 // What a call holds between two reads: its next read or the status that ends the run, and the same two counts as the state.
-#[derive(Drop)]
+#[derive(Clone, Copy)]
 pub struct Cursor {
     pub next: Next,
     pub patterns: u64,

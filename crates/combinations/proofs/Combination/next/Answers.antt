@@ -1,0 +1,17 @@
+-- `combinations::Combination::next` meets its contract. Assumes nothing.
+use mathlib.Core.Path.{◌∙◌, sym}
+use native.Mathlib.Numerals.{add-one}
+use Rattle.combinations.specs.Combinations.{sum}
+use Rattle.combinations.proofs.Successor.{next_within, next_past}
+use Rattle.combinations.proofs.Combination.next.Goals as goal
+
+pub returns-then-self : goal.returns-then-self
+returns-then-self c =
+    let s = c in
+    sym (next_within s.args.kept s.args.self s.requires.1 c.if-self.true)
+
+pub returns : goal.returns
+unfolding sum
+returns c =
+    let s = c in
+    c.from_b.ensures ∙ (rw add-one (sym (next_past s.args.kept s.args.self s.requires.1 c.if-self.false)))

@@ -1,0 +1,35 @@
+use mathlib.Core.Path.{refl, sym, ap, ◌∙◌}
+use Prim.Native.Nat.{◌+◌}
+use native.Mathlib.Omega.{arith}
+use Rattle.pattern_catalog.specs.Answers.{Answer, found_says}
+use Rattle.pattern_catalog.specs.SlotRead.{section_part, part_start}
+use Rattle.pattern_entry.proofs.Bytes.{part_is}
+use Rattle.pattern_catalog.proofs.SlotRead.{read_place}
+use Rattle.pattern_catalog.proofs.slot_read.entry_of.Goals as goal
+
+pub overflow_mul-a : goal.overflow_mul-a
+overflow_mul-a c = let a = c.args in omega (arith, (read_place a.slots a.words.now a.packed.now a.slot _ (sym c.find.ensures ∙ ap found_says c.in-At.is)).2)
+
+pub overflow_add-e : goal.overflow_add-e
+overflow_add-e c = let a = c.args in omega (arith, (read_place a.slots a.words.now a.packed.now a.slot _ (sym c.find.ensures ∙ ap found_says c.in-At.is)).2)
+
+pub returns-in-At : goal.returns-in-At
+returns-in-At c =
+    let a = c.args in
+    let e = sym c.find.ensures ∙ ap found_says c.in-At.is in
+    record { bytes = part_is a.packed.now _ ∙ sym (ap (section_part a.packed.now) e); place = (refl, sym (ap (λ (x : Answer). part_start x + a.packed.ref_ptr.1) e)) }
+
+pub returns-in-Empty : goal.returns-in-Empty
+returns-in-Empty c =
+    let a = c.args in
+    let e = sym c.find.ensures ∙ ap found_says c.in-Empty.is in
+    record { bytes = sym (ap (section_part a.packed.now) e); place = (refl, sym (ap (λ (x : Answer). part_start x + a.packed.ref_ptr.1) e)) }
+
+pub returns-in-Refused : goal.returns-in-Refused
+returns-in-Refused c =
+    let a = c.args in
+    let e = sym c.find.ensures ∙ ap found_says c.in-Refused.is in
+    record { bytes = sym (ap (section_part a.packed.now) e); place = (refl, sym (ap (λ (x : Answer). part_start x + a.packed.ref_ptr.1) e)) }
+
+pub slice_bounds-result-end : goal.slice_bounds-result-end
+slice_bounds-result-end c = let a = c.args in omega (arith, (read_place a.slots a.words.now a.packed.now a.slot _ (sym c.find.ensures ∙ ap found_says c.in-At.is)).2)

@@ -1,0 +1,10 @@
+use Prim.Native.Nat.{◌-◌, ◌≤◌}
+use Rattle.pattern_keys.specs.Keys.{concat_map, run}
+use Rattle.pattern_keys.specs.NestedLoops.{fourth, Enumerated}
+use Rattle.pattern_keys.proofs.nested_loops.third.Given as goal
+
+abbrev pub invariant-loop-i : goal.invariant-loop-i
+invariant-loop-i l = (l.i ≤ l.n) × Enumerated l.c l.bins l.initial.hashes l.initial.dist l.hashes l.dist l.m l.at (concat_map (fourth l.lo l.hi) (run 2 l.a l.i l.k))
+
+abbrev pub decreases-loop-i : goal.decreases-loop-i
+decreases-loop-i l = l.n - l.i

@@ -1,0 +1,48 @@
+use mathlib.Core.Path.{sym, ◌∙◌, ap}
+use native.Mathlib.Omega.{arith}
+use Rattle.undivided_run.specs.Undivided.{filled, gives}
+use Rattle.undivided_run.specs.Step.{valid_at}
+use Rattle.search_feed.specs.Data.{frame_of, data_of}
+use Rattle.search_feed.specs.Feed.{feed}
+use Rattle.search_cache.proofs.Loaded.{loaded_four}
+use Rattle.pattern_search.proofs.Iterating.{Means, means, refused_invalid, entry_filled, here_of, room_of, read_slot_same, read_slot_bounds, at_read, reply_refused, read_iterated, iterate_stop, ready_after}
+use Rattle.pattern_search.proofs.reading.single_read.Goals as goal
+
+pub read_slot-read-requires : goal.read_slot-read-requires
+read_slot-read-requires c =
+    let b = c in
+    let D = data_of (frame_of b.args.centroids.now b.args.order.now b.args.config b.args.passes.now) b.args.slots b.args.words.now b.args.packed.now b.args.stars.now in
+    read_slot_bounds D b.args.p b.args.current _ _ _ b.requires.0.asked b.requires.2 b.requires.3 (here_of D b.args.cursor b.args.p _ _ _ _ b.requires.0 b.requires.1) b.requires.0.table
+
+pub returns-then-refuses : goal.returns-then-refuses
+returns-then-refuses c =
+    let b = c in
+    let D = data_of (frame_of b.args.centroids.now b.args.order.now b.args.config b.args.passes.now) b.args.slots b.args.words.now b.args.packed.now b.args.stars.now in
+    let m : Means c.read_slot-read.result.outcome c.read_slot-read.result.candidate (filled (feed D) b.args.p) (valid_at (feed D) b.args.p) (gives (feed D) b.args.p) =
+    means D b.args.p c.read_slot-read.result
+    (read_slot_same D b.args.p b.args.current _ _ _ b.requires.0.asked b.requires.2 b.requires.3 (here_of D b.args.cursor b.args.p _ _ _ _ b.requires.0 b.requires.1) _ (ap (λ z. z.field) c.pass_at-field.ensures) _ c.read_slot-read.ensures) in
+    let n = sym c.refuses.ensures ∙ c.if-refuses.true in
+    iterate_stop D b.args.st b.args.allowance b.args.cursor _ (reply_refused D b.args.st b.args.allowance b.args.cursor b.args.p b.requires.1 b.requires.4 (refused_invalid D b.args.p c.read_slot-read.result m n) _ c.plain-reply.ensures) _ _ _ _ _ _ c.stop.ensures
+
+pub step-s-requires : goal.step-s-requires
+step-s-requires c =
+    let b = c in
+    let D = data_of (frame_of b.args.centroids.now b.args.order.now b.args.config b.args.passes.now) b.args.slots b.args.words.now b.args.packed.now b.args.stars.now in
+    let m = room_of D b.args.cursor b.args.p _ _ _ _ b.requires.0 b.requires.1 in
+    (b.requires.0.asked, at_read D b.args.p b.args.current _ _ _ b.requires.0.asked b.requires.2 b.requires.3 (here_of D b.args.cursor b.args.p _ _ _ _ b.requires.0 b.requires.1) b.requires.0.table, m.0, m.1)
+
+pub overflow_sub-allowance : goal.overflow_sub-allowance
+overflow_sub-allowance c = let b = c in omega (arith, b.requires.4)
+
+pub returns : goal.returns
+returns c =
+    let b = c in
+    let D = data_of (frame_of b.args.centroids.now b.args.order.now b.args.config b.args.passes.now) b.args.slots b.args.words.now b.args.packed.now b.args.stars.now in
+    let m : Means c.read_slot-read.result.outcome c.read_slot-read.result.candidate (filled (feed D) b.args.p) (valid_at (feed D) b.args.p) (gives (feed D) b.args.p) =
+    means D b.args.p c.read_slot-read.result
+    (read_slot_same D b.args.p b.args.current _ _ _ b.requires.0.asked b.requires.2 b.requires.3 (here_of D b.args.cursor b.args.p _ _ _ _ b.requires.0 b.requires.1) _ (ap (λ z. z.field) c.pass_at-field.ensures) _ c.read_slot-read.ensures) in
+    let n = sym c.refuses.ensures ∙ c.if-refuses.false in
+    let v = c.step-s.ensures.cursor _ _ _ (c.saw_entry.ensures ∙ entry_filled D b.args.p c.read_slot-read.result m n) in
+    let d = c.step-s.ensures.caches in
+    let y = ready_after D b.args.cursor b.args.p _ _ _ _ _ _ _ _ b.requires.0 b.requires.1 _ v d.pass (d.four _ (loaded_four D.frame b.args.p.pass b.args.p.four _ _ b.requires.3 b.requires.2.is)) in
+    read_iterated D b.args.st b.args.allowance b.args.cursor b.args.p b.requires.1 b.requires.4 _ v _ _ _ _ y c.read_slot-read.result n m _ c.iteration_after.ensures

@@ -1,0 +1,7 @@
+use Rattle.search_cache.proofs.AngleArray.{six_right, still_same}
+use Rattle.search_cache.proofs.angles.six_angles.Goals as goal
+
+pub returns-then-all_known : goal.returns-then-all_known
+returns-then-all_known c =
+    let b = c in
+    record { six = six_right b.args.geometry.now b.args.q b.requires.0 b.requires.1 _ c.cached_six-kept.ensures (c.all_known.ensures.known c.if-all_known.true); directions = still_same _ b.requires.2 }

@@ -1,0 +1,21 @@
+use mathlib.Core.Path.{sym, ◌∙◌}
+use native.Mathlib.Omega.{arith}
+use Rattle.settings.proofs.PassLimits.{passes_fitting}
+use Rattle.search_cache.proofs.Loaded.{loaded_pass, next_pass_inside}
+use Rattle.search_step.proofs.CacheAfter.{kept_same}
+use Rattle.search_step.proofs.NextRead.{four_follows, four_ends}
+use Rattle.search_step.proofs.next_read.after_combination.Goals as goal
+
+pub overflow_add-p : goal.overflow_add-p
+overflow_add-p c =
+    let b = c in
+    record { fits = omega (arith, b.requires.1.loaded.inside, (passes_fitting b.args.passes.now b.requires.0.five).few) }
+
+pub to_pass-requires : goal.to_pass-requires
+to_pass-requires c = (c.requires.0, loaded_pass _ _ _ _ _ c.requires.1.loaded, next_pass_inside _ _ _ _ _ c.requires.1.loaded)
+
+pub returns-in-Next : goal.returns-in-Next
+returns-in-Next c = record { next = λ w e x. c.to_combination.ensures ∙ sym (four_follows _ _ w e x _ _ _ _ _ c.requires.1.loaded.cached.count _ c.next.ensures _ c.in-Next.is); caches = kept_same _ _ _ _ (loaded_pass _ _ _ _ _ c.requires.1.loaded) }
+
+pub returns-in-Nothing : goal.returns-in-Nothing
+returns-in-Nothing c = record { next = λ w e x. c.to_pass.ensures.next w e x ∙ sym (four_ends _ _ w e x _ _ _ _ _ c.requires.1.loaded.cached.count _ c.next.ensures c.in-Nothing.is); caches = c.to_pass.ensures.caches }

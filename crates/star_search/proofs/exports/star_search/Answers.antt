@@ -1,0 +1,15 @@
+use Rattle.star_search.proofs.ThroughC.{search_through}
+use Rattle.star_search.proofs.exports.star_search.Goals as goal
+
+pub returns : goal.returns
+returns c =
+    let a = c.args in
+    search_through a.centroids.now a.order.now a.passes.now a.stars.now a.settings a.slots a.words.now a.packed.now a.state a.allowance
+    c.config_from_c-config.result
+    c.config_from_c-config.ensures
+    c.state_from_c-from.result
+    c.state_from_c-from.ensures
+    c.search-said.result
+    c.search-said.ensures.returned
+    c.answer_to_c.result
+    c.answer_to_c.ensures

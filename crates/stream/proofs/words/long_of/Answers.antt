@@ -1,0 +1,5 @@
+use mathlib.Core.Path.{refl}
+use Rattle.stream.proofs.words.long_of.Goals as goal
+
+pub returns : goal.returns
+returns c = refl

@@ -1,0 +1,5 @@
+use native.Mathlib.Numerals.{add-one}
+use Rattle.undivided_run.proofs.state.Position.next_key.Goals as goal
+
+pub returns : goal.returns
+returns c = rw add-one
