@@ -22,80 +22,48 @@ returns-then-not-centroids_fit c = let h : c.refused.result ≡ completed_of c.a
 
 pub returns-then-not-coordinates_fit : goal.returns-then-not-coordinates_fit
 returns-then-not-coordinates_fit c =
-    let yes_1 : centroids_fit c.args.centroids.now ≡ true = sym c.centroids_fit.ensures ∙ not-false _ c.if-not-centroids_fit.false-raw in
-    let h : c.refused-then-not-coordinates_fit.result ≡ completed_of c.args.centroids.now c.args.order.now c.args.passes.now c.args.stars.now c.args.candidate c.args.scale = c.refused-then-not-coordinates_fit.ensures ∙ no_2 _ _ _ _ _ _ yes_1 (sym c.coordinates_fit.ensures ∙ not-true _ c.if-not-coordinates_fit.true-raw) in
+    let h : c.refused-then-not-coordinates_fit.result ≡ completed_of c.args.centroids.now c.args.order.now c.args.passes.now c.args.stars.now c.args.candidate c.args.scale = c.refused-then-not-coordinates_fit.ensures ∙ no_2 _ _ _ _ _ _ (sym c.centroids_fit.ensures ∙ not-false _ c.if-not-centroids_fit.false-raw) (sym c.coordinates_fit.ensures ∙ not-true _ c.if-not-coordinates_fit.true-raw) in
     record { completed = h; says = (and_said _ _ _ _ _ _ _ h).1 }
 
 pub returns-then-not-order_fits : goal.returns-then-not-order_fits
 returns-then-not-order_fits c =
-    let yes_1 : centroids_fit c.args.centroids.now ≡ true = sym c.centroids_fit.ensures ∙ not-false _ c.if-not-centroids_fit.false-raw in
-    let yes_2 : coordinates_fit c.args.centroids.now ≡ true = sym c.coordinates_fit.ensures ∙ not-false _ c.if-not-coordinates_fit.false-raw in
-    let h : c.refused-then-not-order_fits.result ≡ completed_of c.args.centroids.now c.args.order.now c.args.passes.now c.args.stars.now c.args.candidate c.args.scale = c.refused-then-not-order_fits.ensures ∙ no_3 _ _ _ _ _ _ yes_1 yes_2 (sym c.order_fits.ensures ∙ not-true _ c.if-not-order_fits.true-raw) in
+    let h : c.refused-then-not-order_fits.result ≡ completed_of c.args.centroids.now c.args.order.now c.args.passes.now c.args.stars.now c.args.candidate c.args.scale = c.refused-then-not-order_fits.ensures ∙ no_3 _ _ _ _ _ _ (sym c.centroids_fit.ensures ∙ not-false _ c.if-not-centroids_fit.false-raw) (sym c.coordinates_fit.ensures ∙ not-false _ c.if-not-coordinates_fit.false-raw) (sym c.order_fits.ensures ∙ not-true _ c.if-not-order_fits.true-raw) in
     record { completed = h; says = (and_said _ _ _ _ _ _ _ h).1 }
 
 pub returns-then-not-passes_fit : goal.returns-then-not-passes_fit
 returns-then-not-passes_fit c =
-    let yes_1 : centroids_fit c.args.centroids.now ≡ true = sym c.centroids_fit.ensures ∙ not-false _ c.if-not-centroids_fit.false-raw in
-    let yes_2 : coordinates_fit c.args.centroids.now ≡ true = sym c.coordinates_fit.ensures ∙ not-false _ c.if-not-coordinates_fit.false-raw in
-    let yes_3 : order_fits c.args.order.now c.args.centroids.now ≡ true = sym c.order_fits.ensures ∙ not-false _ c.if-not-order_fits.false-raw in
-    let h : c.refused-then-not-passes_fit.result ≡ completed_of c.args.centroids.now c.args.order.now c.args.passes.now c.args.stars.now c.args.candidate c.args.scale = c.refused-then-not-passes_fit.ensures ∙ no_5 _ _ _ _ _ _ yes_1 yes_2 yes_3 (sym c.passes_fit.ensures ∙ not-true _ c.if-not-passes_fit.true-raw) in
+    let h : c.refused-then-not-passes_fit.result ≡ completed_of c.args.centroids.now c.args.order.now c.args.passes.now c.args.stars.now c.args.candidate c.args.scale = c.refused-then-not-passes_fit.ensures ∙ no_5 _ _ _ _ _ _ (sym c.centroids_fit.ensures ∙ not-false _ c.if-not-centroids_fit.false-raw) (sym c.coordinates_fit.ensures ∙ not-false _ c.if-not-coordinates_fit.false-raw) (sym c.order_fits.ensures ∙ not-false _ c.if-not-order_fits.false-raw) (sym c.passes_fit.ensures ∙ not-true _ c.if-not-passes_fit.true-raw) in
     record { completed = h; says = (and_said _ _ _ _ _ _ _ h).1 }
 
 pub returns-then-not-stars_fit : goal.returns-then-not-stars_fit
 returns-then-not-stars_fit c =
-    let yes_1 : centroids_fit c.args.centroids.now ≡ true = sym c.centroids_fit.ensures ∙ not-false _ c.if-not-centroids_fit.false-raw in
-    let yes_2 : coordinates_fit c.args.centroids.now ≡ true = sym c.coordinates_fit.ensures ∙ not-false _ c.if-not-coordinates_fit.false-raw in
-    let yes_3 : order_fits c.args.order.now c.args.centroids.now ≡ true = sym c.order_fits.ensures ∙ not-false _ c.if-not-order_fits.false-raw in
-    let yes_5 : passes_fit c.args.passes.now ≡ true = sym c.passes_fit.ensures ∙ not-false _ c.if-not-passes_fit.false-raw in
-    let h : c.refused-then-not-stars_fit.result ≡ completed_of c.args.centroids.now c.args.order.now c.args.passes.now c.args.stars.now c.args.candidate c.args.scale = c.refused-then-not-stars_fit.ensures ∙ no_7 _ _ _ _ _ _ yes_1 yes_2 yes_3 yes_5 (sym c.stars_fit.ensures ∙ not-true _ c.if-not-stars_fit.true-raw) in
+    let h : c.refused-then-not-stars_fit.result ≡ completed_of c.args.centroids.now c.args.order.now c.args.passes.now c.args.stars.now c.args.candidate c.args.scale = c.refused-then-not-stars_fit.ensures ∙ no_7 _ _ _ _ _ _ (sym c.centroids_fit.ensures ∙ not-false _ c.if-not-centroids_fit.false-raw) (sym c.coordinates_fit.ensures ∙ not-false _ c.if-not-coordinates_fit.false-raw) (sym c.order_fits.ensures ∙ not-false _ c.if-not-order_fits.false-raw) (sym c.passes_fit.ensures ∙ not-false _ c.if-not-passes_fit.false-raw) (sym c.stars_fit.ensures ∙ not-true _ c.if-not-stars_fit.true-raw) in
     record { completed = h; says = (and_said _ _ _ _ _ _ _ h).1 }
 
 pub returns-then-not-candidate_fits : goal.returns-then-not-candidate_fits
 returns-then-not-candidate_fits c =
-    let yes_1 : centroids_fit c.args.centroids.now ≡ true = sym c.centroids_fit.ensures ∙ not-false _ c.if-not-centroids_fit.false-raw in
-    let yes_2 : coordinates_fit c.args.centroids.now ≡ true = sym c.coordinates_fit.ensures ∙ not-false _ c.if-not-coordinates_fit.false-raw in
-    let yes_3 : order_fits c.args.order.now c.args.centroids.now ≡ true = sym c.order_fits.ensures ∙ not-false _ c.if-not-order_fits.false-raw in
-    let yes_5 : passes_fit c.args.passes.now ≡ true = sym c.passes_fit.ensures ∙ not-false _ c.if-not-passes_fit.false-raw in
-    let yes_7 : stars_fit c.args.stars.now ≡ true = sym c.stars_fit.ensures ∙ not-false _ c.if-not-stars_fit.false-raw in
-    let h : c.refused-then-not-candidate_fits.result ≡ completed_of c.args.centroids.now c.args.order.now c.args.passes.now c.args.stars.now c.args.candidate c.args.scale = c.refused-then-not-candidate_fits.ensures ∙ no_14 _ _ _ _ _ _ yes_1 yes_2 yes_3 yes_5 yes_7 (sym c.candidate_fits.ensures ∙ not-true _ c.if-not-candidate_fits.true-raw) in
+    let h : c.refused-then-not-candidate_fits.result ≡ completed_of c.args.centroids.now c.args.order.now c.args.passes.now c.args.stars.now c.args.candidate c.args.scale = c.refused-then-not-candidate_fits.ensures ∙ no_14 _ _ _ _ _ _ (sym c.centroids_fit.ensures ∙ not-false _ c.if-not-centroids_fit.false-raw) (sym c.coordinates_fit.ensures ∙ not-false _ c.if-not-coordinates_fit.false-raw) (sym c.order_fits.ensures ∙ not-false _ c.if-not-order_fits.false-raw) (sym c.passes_fit.ensures ∙ not-false _ c.if-not-passes_fit.false-raw) (sym c.stars_fit.ensures ∙ not-false _ c.if-not-stars_fit.false-raw) (sym c.candidate_fits.ensures ∙ not-true _ c.if-not-candidate_fits.true-raw) in
     record { completed = h; says = (and_said _ _ _ _ _ _ _ h).1 }
 
 pub returns-then-not-four_valid : goal.returns-then-not-four_valid
 returns-then-not-four_valid c =
-    let yes_1 : centroids_fit c.args.centroids.now ≡ true = sym c.centroids_fit.ensures ∙ not-false _ c.if-not-centroids_fit.false-raw in
-    let yes_2 : coordinates_fit c.args.centroids.now ≡ true = sym c.coordinates_fit.ensures ∙ not-false _ c.if-not-coordinates_fit.false-raw in
-    let yes_3 : order_fits c.args.order.now c.args.centroids.now ≡ true = sym c.order_fits.ensures ∙ not-false _ c.if-not-order_fits.false-raw in
-    let yes_5 : passes_fit c.args.passes.now ≡ true = sym c.passes_fit.ensures ∙ not-false _ c.if-not-passes_fit.false-raw in
-    let yes_7 : stars_fit c.args.stars.now ≡ true = sym c.stars_fit.ensures ∙ not-false _ c.if-not-stars_fit.false-raw in
-    let yes_14 : candidate_fits c.args.order.now c.args.passes.now c.args.candidate c.args.scale ≡ true = sym c.candidate_fits.ensures ∙ not-false _ c.if-not-candidate_fits.false-raw in
-    let h : c.refused-then-not-four_valid.result ≡ completed_of c.args.centroids.now c.args.order.now c.args.passes.now c.args.stars.now c.args.candidate c.args.scale = c.refused-then-not-four_valid.ensures ∙ no_9 _ _ _ _ _ _ yes_1 yes_2 yes_3 yes_5 yes_7 yes_14 (sym c.four_valid.ensures ∙ not-true _ c.if-not-four_valid.true-raw) in
+    let h : c.refused-then-not-four_valid.result ≡ completed_of c.args.centroids.now c.args.order.now c.args.passes.now c.args.stars.now c.args.candidate c.args.scale = c.refused-then-not-four_valid.ensures ∙ no_9 _ _ _ _ _ _ (sym c.centroids_fit.ensures ∙ not-false _ c.if-not-centroids_fit.false-raw) (sym c.coordinates_fit.ensures ∙ not-false _ c.if-not-coordinates_fit.false-raw) (sym c.order_fits.ensures ∙ not-false _ c.if-not-order_fits.false-raw) (sym c.passes_fit.ensures ∙ not-false _ c.if-not-passes_fit.false-raw) (sym c.stars_fit.ensures ∙ not-false _ c.if-not-stars_fit.false-raw) (sym c.candidate_fits.ensures ∙ not-false _ c.if-not-candidate_fits.false-raw) (sym c.four_valid.ensures ∙ not-true _ c.if-not-four_valid.true-raw) in
     record { completed = h; says = (and_said _ _ _ _ _ _ _ h).1 }
 
 pub pixel_scale-at-requires : goal.pixel_scale-at-requires
 pixel_scale-at-requires c =
-    let yes_14 : candidate_fits c.args.order.now c.args.passes.now c.args.candidate c.args.scale ≡ true = sym c.candidate_fits.ensures ∙ not-false _ c.if-not-candidate_fits.false-raw in
-    pass_exists _ _ _ _ yes_14
+    pass_exists _ _ _ _ (sym c.candidate_fits.ensures ∙ not-false _ c.if-not-candidate_fits.false-raw)
 
 pub image_vectors-found-requires : goal.image_vectors-found-requires
 image_vectors-found-requires c =
-    let yes_3 : order_fits c.args.order.now c.args.centroids.now ≡ true = sym c.order_fits.ensures ∙ not-false _ c.if-not-order_fits.false-raw in
-    let yes_14 : candidate_fits c.args.order.now c.args.passes.now c.args.candidate c.args.scale ≡ true = sym c.candidate_fits.ensures ∙ not-false _ c.if-not-candidate_fits.false-raw in
-    places_inside _ _ _ yes_3 (rising_places _ _ _ _ yes_14)
+    places_inside _ _ _ (sym c.order_fits.ensures ∙ not-false _ c.if-not-order_fits.false-raw) (rising_places _ _ _ _ (sym c.candidate_fits.ensures ∙ not-false _ c.if-not-candidate_fits.false-raw))
 
 pub star_vectors-requires : goal.star_vectors-requires
 star_vectors-requires c =
-    let yes_9 : four_valid c.args.stars.now c.args.candidate.stars ≡ true = sym c.four_valid.ensures ∙ not-false _ c.if-not-four_valid.false-raw in
-    stars_inside _ _ yes_9
+    stars_inside _ _ (sym c.four_valid.ensures ∙ not-false _ c.if-not-four_valid.false-raw)
 
 pub returns : goal.returns
 returns c =
     let drawn : c.matched-image.result ≡ matched_of (image_vectors c.args.centroids.now c.args.order.now c.args.candidate.places (scale_of c.args.passes.now c.args.candidate c.args.scale)) = c.matched-image.ensures ∙ ap matched_of (c.image_vectors-found.ensures ∙ ap (image_vectors _ _ _) c.pixel_scale-at.ensures) in
-    let yes_1 : centroids_fit c.args.centroids.now ≡ true = sym c.centroids_fit.ensures ∙ not-false _ c.if-not-centroids_fit.false-raw in
-    let yes_2 : coordinates_fit c.args.centroids.now ≡ true = sym c.coordinates_fit.ensures ∙ not-false _ c.if-not-coordinates_fit.false-raw in
-    let yes_3 : order_fits c.args.order.now c.args.centroids.now ≡ true = sym c.order_fits.ensures ∙ not-false _ c.if-not-order_fits.false-raw in
-    let yes_5 : passes_fit c.args.passes.now ≡ true = sym c.passes_fit.ensures ∙ not-false _ c.if-not-passes_fit.false-raw in
-    let yes_7 : stars_fit c.args.stars.now ≡ true = sym c.stars_fit.ensures ∙ not-false _ c.if-not-stars_fit.false-raw in
-    let yes_14 : candidate_fits c.args.order.now c.args.passes.now c.args.candidate c.args.scale ≡ true = sym c.candidate_fits.ensures ∙ not-false _ c.if-not-candidate_fits.false-raw in
-    let yes_9 : four_valid c.args.stars.now c.args.candidate.stars ≡ true = sym c.four_valid.ensures ∙ not-false _ c.if-not-four_valid.false-raw in
-    let h : c.done.result ≡ completed_of c.args.centroids.now c.args.order.now c.args.passes.now c.args.stars.now c.args.candidate c.args.scale = c.done.ensures ∙ ap₂ (λ v s. completed_as (vectors v s)) drawn c.star_vectors.ensures ∙ all_yes _ _ _ _ _ _ yes_1 yes_2 yes_3 yes_5 yes_7 yes_14 yes_9 in
+    let h : c.done.result ≡ completed_of c.args.centroids.now c.args.order.now c.args.passes.now c.args.stars.now c.args.candidate c.args.scale = c.done.ensures ∙ ap₂ (λ v s. completed_as (vectors v s)) drawn c.star_vectors.ensures ∙ all_yes _ _ _ _ _ _ (sym c.centroids_fit.ensures ∙ not-false _ c.if-not-centroids_fit.false-raw) (sym c.coordinates_fit.ensures ∙ not-false _ c.if-not-coordinates_fit.false-raw) (sym c.order_fits.ensures ∙ not-false _ c.if-not-order_fits.false-raw) (sym c.passes_fit.ensures ∙ not-false _ c.if-not-passes_fit.false-raw) (sym c.stars_fit.ensures ∙ not-false _ c.if-not-stars_fit.false-raw) (sym c.candidate_fits.ensures ∙ not-false _ c.if-not-candidate_fits.false-raw) (sym c.four_valid.ensures ∙ not-false _ c.if-not-four_valid.false-raw) in
     record { completed = h; says = (and_said _ _ _ _ _ _ _ h).1 }
