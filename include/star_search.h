@@ -1,7 +1,7 @@
 /*
  * star_search.h: the lost-in-space pattern search of a star camera, for hosts in C and C++.
  *
- * Link target/staticlib/libstar_search.a, which `rt staticlib star_search` writes for plain x86-64 (System V calling convention). Of the
+ * Link target/staticlib/libstar_search.a, which `tools/staticlib star_search` writes for plain x86-64 (System V calling convention). Of the
  * C library it needs memset alone. The header is C11, and C++11 or later.
  *
  * How a host works with it

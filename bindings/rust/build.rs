@@ -9,7 +9,7 @@ fn main() {
     let archive = folder.join("libstar_search.a");
     assert!(
         archive.is_file(),
-        "{} is missing: make it with `rt staticlib star_search`, or set STAR_SEARCH_LIB to its folder",
+        "{} is missing: make it with `tools/staticlib star_search`, or set STAR_SEARCH_LIB to its folder",
         archive.display()
     );
     println!("cargo:rustc-link-search=native={}", folder.display());

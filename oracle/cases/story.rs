@@ -202,7 +202,7 @@ use undivided_run::state::Cap;
 
 /// The settings as the program's source has them.
 fn settings(s: &Settings) -> String {
-    let head = "// The settings: no options but the table's own.\npub fn config() -> SearchConfig {\n";
+    let head = "// The settings of both frames. No option is given.\npub fn config() -> SearchConfig {\n";
     let absent = ["matching = Tolerance", "fov = Tolerance", "cap = Cap"].map(|option| format!("    let {option}::Absent;\n")).concat();
     let fields = [
         format!("bins: {}", s.bins),
@@ -257,7 +257,8 @@ fn story(seed: u64) -> Option<Story> {
     None
 }
 
-/// An array of the program's source, in the layout of its formatter: on one line where it fits in a hundred columns, else one value to a line.
+/// An array of the program's source, in the layout of its formatter: on one line where it fits in a hundred columns, else in filled lines where no value
+/// is longer than ten characters, else one value to a line.
 fn array<T: ToString>(comment: &str, name: &str, kind: &str, values: &[T]) -> String {
     let words: Vec<String> = values.iter().map(T::to_string).collect();
     let head = format!("// {comment}\npub const {name}: [{kind}; {}] = [", words.len());
@@ -265,8 +266,19 @@ fn array<T: ToString>(comment: &str, name: &str, kind: &str, values: &[T]) -> St
     if head.len() - comment.len() + short.len() <= 100 {
         return format!("{head}{short}];\n\n");
     }
-    let lines: String = words.iter().map(|word| format!("    {word},\n")).collect();
-    format!("{head}\n{lines}];\n\n")
+    if words.iter().any(|word| word.len() > 10) {
+        let lines: String = words.iter().map(|word| format!("    {word},\n")).collect();
+        return format!("{head}\n{lines}];\n\n");
+    }
+    let mut lines = vec![String::from("   ")];
+    for word in &words {
+        if lines[lines.len() - 1].len() + word.len() + 2 > 100 {
+            lines.push(String::from("   "));
+        }
+        let last = lines.len() - 1;
+        lines[last] += &format!(" {word},");
+    }
+    format!("{head}\n{}\n];\n\n", lines.join("\n"))
 }
 
 /// Packed entries as the program's source has them: a byte string, an entry to a line.
@@ -308,15 +320,15 @@ impl Story {
         let (t, f) = (&a.table, &a.frame);
         [
             HEAD.to_string(),
-            format!("// The slots of the table.\npub const SLOTS: u64 = {};\n\n", t.slots),
-            array("Its blocks: a rank and seven words of occupancy each.", "WORDS", "u64", &t.words),
-            entries("Its packed entries, one to a line.", "PACKED", &t.packed),
-            array("Its stars, three components each.", "STARS", "f32", &literals(&t.stars)),
+            format!("// The slot count of the table.\npub const SLOTS: u64 = {};\n\n", t.slots),
+            array("The blocks of the table, a rank and seven words of occupancy each.", "WORDS", "u64", &t.words),
+            entries("The packed entries of the table, one to a line.", "PACKED", &t.packed),
+            array("The stars of the table, three components each.", "STARS", "f32", &literals(&t.stars)),
             array("The one pass: field of view in radians, pixel scale, cosine of the separation.", "PASSES", "f32", &literals(&f.triples)),
             array("The spots of frame A, x and y each.", "SPOTS_A", "f32", &literals(&f.coords)),
-            array("Their brightness list.", "ORDER_A", "u32", &f.places),
+            array("The brightness list of frame A.", "ORDER_A", "u32", &f.places),
             array("The spots of frame B.", "SPOTS_B", "f32", &literals(&b.frame.coords)),
-            array("Their brightness list.", "ORDER_B", "u32", &b.frame.places),
+            array("The brightness list of frame B.", "ORDER_B", "u32", &b.frame.places),
             settings(&a.settings),
         ]
         .concat()

@@ -1,6 +1,6 @@
 // The proved catalogue beside a plain reading of document 01 on valid and damaged tables, and the opening check's speed beside a plain pass over
 // the same memory. From the repository's root:
-//   rt staticlib star_search && rt staticlib bench_exports && rustc --edition 2021 -O -L native=target/staticlib -o target/catalog_bench oracle/catalog_bench/main.rs && target/catalog_bench
+//   tools/staticlib star_search && tools/staticlib bench_exports && rustc --edition 2021 -O -L native=target/staticlib -o target/catalog_bench oracle/catalog_bench/main.rs && target/catalog_bench
 use std::collections::BTreeMap;
 use std::hint::black_box;
 use std::time::Instant;
