@@ -1,13 +1,7 @@
 -- `complete::completing::complete` meets its contract. Assumes nothing.
 use mathlib.Core.Path.{◌≡◌, sym, ap, ap₂, ◌∙◌}
-use mathlib.Core.Bool.{true}
 use borrow.Author.Tests.{not-true, not-false}
-use Rattle.preprocess.specs.Questions.{centroids_fit, coordinates_fit}
-use Rattle.preprocess.specs.BrightnessList.{order_fits}
-use Rattle.settings.specs.Passes.{passes_fit}
-use Rattle.pattern_entry.specs.Stars.{stars_fit}
 use Rattle.complete.specs.Answers.{vectors, completed_as}
-use Rattle.complete.specs.Question14.{candidate_fits, four_valid}
 use Rattle.complete.specs.ImageVectors.{scale_of, image_vectors, matched_of}
 use Rattle.complete.proofs.Question14.{pass_exists, rising_places, stars_inside}
 use Rattle.complete.proofs.PlacesInside.{places_inside}
