@@ -5,7 +5,7 @@ ghost use Rattle.bench_exports.specs.Numbers.{raw_entry};
 
 // An entry as plain numbers: its four stars, its largest edge and its mark.
 #[repr(C)]
-#[derive(Drop)]
+#[derive(Clone, Copy)]
 pub struct RawEntry {
     pub star0: u32,
     pub star1: u32,

@@ -20,7 +20,7 @@ pub struct StarState {
 // The settings. A number whose name ends with `_given` is a tag: it is 1 where the option of that name is given, and 0 where it is absent.
 // `reserved` is padding.
 #[repr(C)]
-#[derive(Drop)]
+#[derive(Clone, Copy)]
 pub struct StarSettings {
     pub bins: u32,
     pub checking: u32,
@@ -39,7 +39,7 @@ pub struct StarSettings {
 // A candidate. `place` holds four places in the brightness list and `star` four star indices; `rebuild` is 1 where the rebuild mark is set.
 // `reserved` is padding.
 #[repr(C)]
-#[derive(Drop)]
+#[derive(Clone, Copy)]
 pub struct StarCandidate {
     pub slot: u64,
     pub pass: u32,
@@ -53,7 +53,7 @@ pub struct StarCandidate {
 // A call's answer. `answer` is 0 for a candidate, 1 for allowance used, 2 for ended and 3 for refused; `number` is the status of an ended search
 // or the number of the question that refuses, else 0.
 #[repr(C)]
-#[derive(Drop)]
+#[derive(Clone, Copy)]
 pub struct StarAnswer {
     pub answer: u32,
     pub number: u32,
@@ -63,7 +63,7 @@ pub struct StarAnswer {
 
 // What a slot holds. `answer` is 0 for filled, 1 for empty and 2 for refused; `number` is the number of the question that refuses, else 0.
 #[repr(C)]
-#[derive(Drop)]
+#[derive(Clone, Copy)]
 pub struct StarSlot {
     pub answer: u32,
     pub number: u32,
@@ -71,7 +71,7 @@ pub struct StarSlot {
 
 // A part of the packed section, by its offset and length in bytes.
 #[repr(C)]
-#[derive(Drop)]
+#[derive(Clone, Copy)]
 pub struct StarPart {
     pub offset: u64,
     pub length: u64,
@@ -80,7 +80,7 @@ pub struct StarPart {
 // The sweep's answer. `answer` is 0 for written and 1 for refused; `number` is the number of the question that refuses, else 0; `count` is the
 // count of values written.
 #[repr(C)]
-#[derive(Drop)]
+#[derive(Clone, Copy)]
 pub struct StarSwept {
     pub answer: u32,
     pub number: u32,
@@ -89,7 +89,7 @@ pub struct StarSwept {
 
 // A direction by its three components.
 #[repr(C)]
-#[derive(Drop)]
+#[derive(Clone, Copy)]
 pub struct StarVector {
     pub x: f32,
     pub y: f32,
@@ -99,7 +99,7 @@ pub struct StarVector {
 // The answer of completing. `answer` is 0 for done and 1 for refused; `number` is the number of the question that refuses, else 0. `image` holds
 // the four image vectors in matched order and `star` the four star vectors, all zero where it is refused.
 #[repr(C)]
-#[derive(Drop)]
+#[derive(Clone, Copy)]
 pub struct StarCompleted {
     pub answer: u32,
     pub number: u32,

@@ -38,7 +38,7 @@ pub struct Candidate {
 }
 
 // The outcome of an entry's tests: the entry is passed over, or it gives a candidate with this measured field of view.
-#[derive(Drop)]
+#[derive(Clone, Copy)]
 pub enum Tested {
     PassedOver,
     Hit(f32),

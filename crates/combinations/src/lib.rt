@@ -16,7 +16,7 @@ pub struct Combination {
 }
 
 // A combination, or nothing where no combination is left.
-#[derive(Drop)]
+#[derive(Clone, Copy)]
 pub enum NextCombination {
     Next(Combination),
     Nothing,

@@ -14,14 +14,14 @@ pub struct Row {
 }
 
 // The answer of completing: it is done, or refused with the number of the question that refuses.
-#[derive(Drop)]
+#[derive(Clone, Copy)]
 pub enum Completion {
     Done,
     Refused(u32),
 }
 
 // What completing gives: its answer, the image vectors in matched order, and the star vectors. The vectors are all zero where it is refused.
-#[derive(Drop)]
+#[derive(Clone, Copy)]
 pub struct Completed {
     pub answer: Completion,
     pub image: [Row; 4],

@@ -11,7 +11,7 @@ ghost use Rattle.fast_path.specs.ProbeChain.{along_chain};
 use pattern_catalog::slot_read::Found;
 
 // What is seen at a slot: it is empty, its entry is valid and has another mark, or the slot is left to the single read.
-#[derive(Drop)]
+#[derive(Clone, Copy)]
 pub enum SlotPeek {
     Empty,
     Passed,
@@ -19,14 +19,14 @@ pub enum SlotPeek {
 }
 
 // What is seen at a slot, and the place in the packed section of an entry that is passed over.
-#[derive(Drop)]
+#[derive(Clone, Copy)]
 pub struct PeekResult {
     pub peek: SlotPeek,
     pub place: u64,
 }
 
 // How far the reads along a chain went.
-#[derive(Drop)]
+#[derive(Clone, Copy)]
 pub struct ChainResult {
     // Set where the chain is over.
     pub over: bool,

@@ -16,7 +16,7 @@ pub struct SkipResult {
 }
 
 // Where a step over reads leads: to the first probe of a key, from which skipping goes on, or to a key and probe at which it ends.
-#[derive(Drop)]
+#[derive(Clone, Copy)]
 pub struct KeySkip {
     // Set where skipping goes on.
     pub on: bool,

@@ -7,7 +7,7 @@ mod recorded;
 
 use crate::recorded::report_stream;
 use search_report::report::{report_search, table_line, text};
-use std::env::Env;
+use std::env::{Env, FillError};
 use std::fs::File;
 use std::os::fd::AsRawFd;
 use undivided_run::state::{Phase, State};
@@ -74,6 +74,7 @@ fn main(rt: HostRuntime) {
     let mut path = io::buffer();
     match rt.arg(1, &mut path) {
         Ok(n) => report_file(&rt, &path[..n]),
-        Err(_) => report_frames(),
+        Err(FillError::TooLong) => unopened_line(b""),
+        Err(FillError::NotPresent) => report_frames(),
     }
 }

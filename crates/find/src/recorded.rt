@@ -6,7 +6,7 @@ use stream::records::{Inputs, Record, Request};
 use undivided_run::state::State;
 
 // What a record leaves: whether the stream goes on after it, and the inputs after it.
-#[derive(Drop)]
+#[derive(Clone, Copy)]
 struct Reported {
     more: bool,
     inputs: Inputs,

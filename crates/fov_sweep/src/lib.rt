@@ -12,7 +12,7 @@ use settings::tolerance::Tolerance;
 const PI: f32 = 3.1415927;
 
 // The sweep's answer: the count of values written, or the number of the question that refuses.
-#[derive(Drop)]
+#[derive(Clone, Copy)]
 pub enum Swept {
     Values(u64),
     Refused(u32),

@@ -10,14 +10,14 @@ use pattern_entry::stars::{every_star_valid, stars_fit};
 use pattern_entry::validity::{entry_valid_at, indices_below_at};
 
 // What the opening check says: the table passed, or the number of the question that refuses it.
-#[derive(Drop)]
+#[derive(Clone, Copy)]
 pub enum Opened {
     Passed,
     Refused(u32),
 }
 
 // What is found of the ranks of a table's blocks.
-#[derive(Drop)]
+#[derive(Clone, Copy)]
 enum Ranks {
     // Every rank is right, and the blocks have this many ones in all.
     Right(u64),

@@ -6,7 +6,7 @@ ghost use Rattle.pattern_catalog.specs.Rank.{ranked_at};
 use crate::count_ones::{ones_below, ones_below_slot};
 
 // The place of an entry, where it is below the number of entries in the section.
-#[derive(Drop)]
+#[derive(Clone, Copy)]
 pub enum Ranked {
     // The entry is inside the section, at this place.
     Inside(u64),

@@ -9,7 +9,7 @@ use crate::blocks::{is_filled, table_fits};
 use crate::rank::{Ranked, block_rank, near_rank};
 
 // What a slot read finds.
-#[derive(Drop)]
+#[derive(Clone, Copy)]
 pub enum Found {
     // The slot is filled, and its entry is at this place in the packed section.
     At(u64),
@@ -18,7 +18,7 @@ pub enum Found {
 }
 
 // What a slot holds: an entry or nothing, or the number of the question that refuses the read.
-#[derive(Drop)]
+#[derive(Clone, Copy)]
 pub enum Slot {
     Filled,
     Empty,

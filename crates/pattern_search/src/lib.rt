@@ -27,7 +27,7 @@ pub struct Searched {
 }
 
 // What an iteration gives: the call's reply, or the cursor, the cache and the allowance to go on with.
-#[derive(Drop)]
+#[derive(Clone, Copy)]
 pub struct Iteration {
     pub more: bool,
     pub reply: Searched,

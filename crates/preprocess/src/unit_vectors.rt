@@ -4,7 +4,7 @@ ghost use Rattle.preprocess.specs.Questions.{centroids_fit, coordinates_fit};
 ghost use Rattle.preprocess.specs.UnitVectors.{unit_of, vector_of};
 
 // The number of a centroid. Its x stands in the centroid slice at twice the number, and its y right after its x.
-#[derive(Drop)]
+#[derive(Clone, Copy)]
 pub struct CentroidIndex(pub u32);
 
 // Question 1: is the centroid slice of even length, at most 512?

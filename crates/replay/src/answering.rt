@@ -7,7 +7,7 @@ use stream::records::{Inputs, option};
 use stream::words::Words;
 
 // What a call leaves: whether a run goes on after it, and the inputs after it.
-#[derive(Drop)]
+#[derive(Clone, Copy)]
 struct Called {
     more: bool,
     inputs: Inputs,

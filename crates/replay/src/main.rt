@@ -15,7 +15,7 @@ use stream::words::Words;
 const STDIN_FILENO: i32 = 0;
 
 // What a record leaves: whether the stream goes on after it, and the inputs after it.
-#[derive(Drop)]
+#[derive(Clone, Copy)]
 struct Answered {
     more: bool,
     inputs: Inputs,

@@ -16,7 +16,7 @@ use combinations::Combination;
 use search_feed::SearchConfig;
 
 // What `prepare` makes of a combination: the number of its keys and what the frame shows of it.
-#[derive(Drop)]
+#[derive(Clone, Copy)]
 pub struct CombinationKeys {
     pub keys: u32,
     pub image: Image,

@@ -39,7 +39,7 @@ pub enum ReadOutcome {
 }
 
 // What one read sees, and the candidate that it gives; where it gives none, that is all zero.
-#[derive(Drop)]
+#[derive(Clone, Copy)]
 pub struct ReadResult {
     pub outcome: ReadOutcome,
     pub candidate: Candidate,

@@ -12,7 +12,7 @@ use search_feed::SearchConfig;
 use undivided_run::state::{Phase, Position, State};
 
 // The answer to question 8, with the cache as working it out left it.
-#[derive(Drop)]
+#[derive(Clone, Copy)]
 pub struct Question8Answer {
     pub fits: bool,
     pub cached: Cache,

@@ -6,7 +6,7 @@ ghost use Rattle.search_questions.specs.Questions.{first_seven, asked_of};
 use search_feed::SearchConfig;
 
 // Whether questions 1 to 7 are all answered yes, or the number of the first one answered no.
-#[derive(Drop)]
+#[derive(Clone, Copy)]
 pub enum Questions1To7 {
     Clear,
     No(u32),

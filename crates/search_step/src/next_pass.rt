@@ -13,7 +13,7 @@ use search_feed::SearchConfig;
 use undivided_run::state::{Next, Position, Status};
 
 // The next read or the end of the run, with the cache as working that out left it.
-#[derive(Drop)]
+#[derive(Clone, Copy)]
 pub struct Reached {
     pub next: Next,
     pub cached: Cache,

@@ -1,4 +1,4 @@
-// The read after a read within the same pass: the next probe, key or combination.
+// The read after a read: the next probe, key or combination, or the first read of a later pass.
 ghost use Rattle.std.specs.Prelude.{◌≡◌, List, ℕ, Float};
 ghost use Rattle.undivided_run.specs.Undivided.{filled};
 ghost use Rattle.undivided_run.specs.Step.{after_combination, after_key, next_read};

@@ -6,7 +6,7 @@ use combinations::{Combination, NextCombination};
 use undivided_run::state::Status;
 
 // How a pass begins: with its first combination, or, where it makes no read, with its status.
-#[derive(Drop)]
+#[derive(Clone, Copy)]
 pub enum PassStart {
     First(Combination),
     Over(Status),

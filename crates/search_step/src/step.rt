@@ -1,4 +1,4 @@
-// One step of a call: a read is counted, and what comes after it within its pass is worked out.
+// One step of a call: a read is counted, and the read after it is worked out.
 ghost use Rattle.std.specs.Prelude.{◌≡◌, List, ℕ, ◌<◌, Float};
 ghost use Rattle.undivided_run.specs.Undivided.{filled};
 ghost use Rattle.undivided_run.specs.CallInvariant.{after_read};
@@ -12,8 +12,8 @@ use search_cache::pass::Cache;
 use search_feed::SearchConfig;
 use undivided_run::state::{Cursor, Position};
 
-// What comes after a read within its pass, and the combinations tried (`patterns`) and the reads made with that read.
-#[derive(Drop)]
+// The cursor after a read, with the cache after it.
+#[derive(Clone, Copy)]
 pub struct Stepped {
     pub cursor: Cursor,
     pub cached: Cache,

@@ -1,4 +1,4 @@
-// The settings of a search, the tolerance e that follows from them, and the passes, with questions 4 and 5.
+// The tolerance e, the limits of the settings and the passes, with questions 4 and 5. The struct SearchConfig is in search_feed.
 #![tactic(auto)]
 
 pub mod pass_limits;

@@ -3,7 +3,7 @@ ghost use Rattle.std.specs.Prelude.{◌≡◌, ◌+◌, ◌*◌, ◌/◌, ◌≤
 ghost use Rattle.settings.specs.Passes.{pass_fits, pass_at, first_fit, passes_fit};
 
 // One pass: its field of view in radians, its pixel scale and the cosine of its separation.
-#[derive(Drop)]
+#[derive(Clone, Copy)]
 pub struct Pass {
     pub field: f32,
     pub scale: f32,

@@ -11,7 +11,7 @@ use crate::reading::{
 use crate::words::Words;
 
 // What comes next in a stream: a record of this kind whose payload begins with these words, a record that can't be read, or the end.
-#[derive(Drop)]
+#[derive(Clone, Copy)]
 pub enum Coming {
     Record(u32, Words),
     Broken,

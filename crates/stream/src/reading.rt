@@ -2,21 +2,21 @@
 use crate::words::{Words, long_of};
 
 // A u32 that was read. It counts only where `ok` says that the stream still had its four bytes.
-#[derive(Drop)]
+#[derive(Clone, Copy)]
 struct Word {
     ok: bool,
     n: u32,
 }
 
 // A u64 that was read. It counts only where `ok` says that the stream still had its eight bytes.
-#[derive(Drop)]
+#[derive(Clone, Copy)]
 struct Long {
     ok: bool,
     n: u64,
 }
 
 // The first words of a payload, which count only where `ok` is set, and in `rest` how many bytes are to be passed over after its arrays.
-#[derive(Drop)]
+#[derive(Clone, Copy)]
 pub struct Payload {
     pub ok: bool,
     pub words: Words,
@@ -24,7 +24,7 @@ pub struct Payload {
 }
 
 // The head of a record: its kind and the length of its payload in bytes; or that it is cut short; or the end of the stream.
-#[derive(Drop)]
+#[derive(Clone, Copy)]
 pub enum Head {
     Record(u32, u32),
     Broken,

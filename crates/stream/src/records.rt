@@ -35,7 +35,7 @@ pub struct Inputs {
 
 // What a record asks for. `Call` and `Run` hold an allowance and `Slot` a slot number; a sweep and completing a candidate take their numbers
 // from the words of the record. `Nothing` is for records that set something, and `Broken` for one that can't be read.
-#[derive(Drop)]
+#[derive(Clone, Copy)]
 pub enum Request {
     Nothing,
     Call(u64),
@@ -48,7 +48,7 @@ pub enum Request {
 }
 
 // The effect of one record: what it asks for, the first words of its payload, and the inputs after it.
-#[derive(Drop)]
+#[derive(Clone, Copy)]
 pub struct Record {
     pub request: Request,
     pub words: Words,
@@ -56,7 +56,7 @@ pub struct Record {
 }
 
 // The state that a record names, or `Unknown` for a phase or status that the format doesn't have.
-#[derive(Drop)]
+#[derive(Clone, Copy)]
 pub enum MaybeState {
     Is(State),
     Unknown,

@@ -7,6 +7,8 @@ use Rattle.pattern_entry.proofs.Bytes.{part_is}
 use Rattle.pattern_catalog.proofs.SlotRead.{read_place}
 use Rattle.pattern_catalog.proofs.slot_read.entry_of.Goals as goal
 
+-- Where the slot read gives a place, the 22 bytes
+-- that begin at it lie in the section.
 pub overflow_mul-a : goal.overflow_mul-a
 overflow_mul-a c = let a = c.args in omega (arith, (read_place a.slots a.words.now a.packed.now a.slot _ (sym c.find.ensures ∙ ap found_says c.in-At.is)).2)
 
