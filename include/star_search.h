@@ -5,12 +5,14 @@
  * C library it needs memset alone. The header is C11, and C++11 or later.
  *
  * How a host works with it
- *   1. Once for each table: star_open. Where it answers 0, a list of calls from a fresh state that are all lent this table and the
+ *   1. Once, before anything else: star_search_version() is STAR_SEARCH_VERSION. Where it isn't, header and archive don't belong
+ *      together, and nothing below is promised. The number is raised when a struct, a function or any answer changes.
+ *   2. Once for each table: star_open. Where it answers 0, a list of calls from a fresh state that are all lent this table and the
  *      same frame and settings is never refused under 6 to 9.
- *   2. For each frame: start from a fresh state (all zero) and call star_search with an allowance of table reads above 0, handing
+ *   3. For each frame: start from a fresh state (all zero) and call star_search with an allowance of table reads above 0, handing
  *      each call the state that the last one gave back, until the answer is STAR_ENDED (or STAR_REFUSED: the same call would be
  *      refused again). However the reads are divided into calls, the candidates, their order and the counts are the same.
- *   3. For each candidate: star_complete gives four image vectors beside four star vectors, for the host's own solver.
+ *   4. For each candidate: star_complete gives four image vectors beside four star vectors, for the host's own solver.
  *   star_sweep lists fields of view to make passes of; star_slot and star_entry read one slot of the table.
  *
  * What every function promises
@@ -61,6 +63,10 @@
 #ifdef __cplusplus
 extern "C" {
 #endif
+
+/* The version of this interface: raised whenever a struct, a function or any answer changes. A host compares it with what the archive
+ * says (star_search_version). */
+#define STAR_SEARCH_VERSION 1u
 
 /* Room on the stack, in bytes, that is enough for any call below. */
 #define STAR_STACK 65536u
@@ -203,6 +209,9 @@ typedef struct StarCompleted {
  *              A spot's direction is (x * scale, y * scale, 1) divided by its norm; a spot is kept where no earlier kept one has a
  *              dot product with it above the cosine
  */
+
+/* The version of the archive: the STAR_SEARCH_VERSION of the header that it was made with. It takes nothing and always answers. */
+uint32_t star_search_version(void);
 
 /* The opening check: 0 where the table passes, else the number of the question that refuses it. */
 uint32_t star_open(uint64_t slots,

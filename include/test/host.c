@@ -277,6 +277,10 @@ static int small_record(uint32_t kind, uint64_t length)
 
 int main(void)
 {
+    if (star_search_version() != STAR_SEARCH_VERSION) {
+        fprintf(stderr, "the archive has version %" PRIu32 ", the header %u\n", star_search_version(), STAR_SEARCH_VERSION);
+        return EXIT_FAILURE;
+    }
     for (uint64_t n = 0;; n++) {
         uint32_t head[2];
         size_t got = fread(head, 1, sizeof head, stdin);

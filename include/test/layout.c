@@ -23,6 +23,18 @@ static void expect(int fact, const char *text, int line)
 }
 #define EXPECT(fact) expect((fact) ? 1 : 0, #fact, __LINE__)
 
+/* ---- the version: a number that the preprocessor and a constant can use, and the archive's own */
+#if STAR_SEARCH_VERSION < 1
+#error "the header's version is below the first"
+#endif
+enum { VERSION = STAR_SEARCH_VERSION };
+
+static void version(void)
+{
+    EXPECT(star_search_version() == STAR_SEARCH_VERSION);
+    EXPECT(star_search_version() == (uint32_t)VERSION);
+}
+
 /* ---- a frame of 12 spots, three passes, and a table of 448 slots with one entry, in slot 5 */
 enum { SPOTS = 12, PASSES = 3, SLOTS = 448, STARS = 6 };
 
@@ -461,6 +473,7 @@ static void stack(void)
 
 int main(void)
 {
+    version();
     states_as_received();
     state_fields();
     allowance_zero();

@@ -4,9 +4,10 @@
 //! what refuses a call). This package wraps it in ordinary Rust types. It needs nothing but that library, allocates nothing and keeps
 //! nothing between calls; any number in any field has its answer, and no call panics or runs on.
 //!
-//! A host opens a [`Table`] once. For each image it lends a [`Frame`] with [`Settings`], starts from [`State::fresh`], and asks for
-//! candidates with an allowance of table reads, as often as it likes: however the reads are divided into calls, the candidates, their
-//! order and the counts are the same. Each candidate it completes into four image vectors beside four star vectors, for its own solver.
+//! A host holds [`version`] against [`VERSION`] before its first call, and opens a [`Table`] once. For each image it lends a [`Frame`] with
+//! [`Settings`], starts from [`State::fresh`], and asks for candidates with an allowance of table reads, as often as it likes: however the
+//! reads are divided into calls, the candidates, their order and the counts are the same. Each candidate it completes into four image
+//! vectors beside four star vectors, for its own solver.
 //!
 //! ```
 //! use star_search::{Frame, Pass, Settings, State, Status, Table};
@@ -58,6 +59,20 @@ mod tests;
 pub use candidates::Candidates;
 pub use refusal::Refusal;
 pub use state::State;
+
+/// The version of the C interface that this package is written for, the header's STAR_SEARCH_VERSION: raised whenever a struct, a function
+/// or any answer changes.
+pub const VERSION: u32 = 1;
+
+/// The version that the linked archive has. Where it isn't [`VERSION`], package and archive don't belong together, and nothing else here is
+/// promised.
+///
+/// ```
+/// assert_eq!(star_search::version(), star_search::VERSION);
+/// ```
+pub fn version() -> u32 {
+    raw::version()
+}
 
 /// A table of patterns, as lent.
 #[derive(Clone, Copy, Debug)]

@@ -111,6 +111,7 @@ mod c {
     use super::{Answer, Candidate, Completed, Part, Settings, Slot, State, Swept};
 
     extern "C" {
+        pub fn star_search_version() -> u32;
         pub fn star_open(
             slots: u64,
             words: *const u64,
@@ -187,6 +188,12 @@ pub fn floats(passes: &[Pass]) -> &[f32] {
     // SAFETY: a Pass is three f32 in order without padding (repr(C); size and alignment are held above), so the slice's memory is
     // three times as many initialised f32, borrowed for as long.
     unsafe { std::slice::from_raw_parts(passes.as_ptr().cast(), passes.len() * 3) }
+}
+
+/// star_search_version.
+pub fn version() -> u32 {
+    // SAFETY: the function takes nothing, and reads and writes no memory but its own.
+    unsafe { c::star_search_version() }
 }
 
 /// star_open.

@@ -4,7 +4,7 @@
 //! empty, a key with an even hash reads both and one with an odd hash the second alone: 9 reads a combination, and the entry's mark 0 agrees with
 //! the first key's only.
 
-use crate::{sweep, Answer, Candidate, Completed, Frame, Pass, Refusal, Settings, Slot, State, Status, Table};
+use crate::{sweep, version, Answer, Candidate, Completed, Frame, Pass, Refusal, Settings, Slot, State, Status, Table, VERSION};
 
 const STARS: [[f32; 3]; 4] = [[0.0, 0.0, 1.0], [0.06, 0.0, 0.998], [0.0, 0.08, 0.997], [0.05, 0.07, 0.996]];
 const WORDS: [u64; 8] = [0, 1, 0, 0, 0, 0, 0, 0];
@@ -31,6 +31,19 @@ fn run(frame: &Frame, settings: &Settings, allowance: u64) -> (Vec<Candidate>, R
             Err(refusal) => return (list, Err(refusal), state),
         }
     }
+}
+
+#[test]
+fn the_archive_has_this_version() {
+    assert_eq!(version(), VERSION);
+}
+
+#[test]
+fn the_header_has_this_version() {
+    let path = concat!(env!("CARGO_MANIFEST_DIR"), "/../../include/star_search.h");
+    let header = std::fs::read_to_string(path).expect("the header beside this package");
+    let mut numbers = header.lines().filter_map(|line| line.strip_prefix("#define STAR_SEARCH_VERSION "));
+    assert_eq!((numbers.next(), numbers.next()), (Some(format!("{VERSION}u").as_str()), None));
 }
 
 #[test]

@@ -9,6 +9,7 @@ ghost use Rattle.c_types.specs.Config.{option_of};
 ghost use Rattle.c_types.specs.Candidate.{candidate_from};
 ghost use Rattle.c_types.specs.Results.{opened_number, slot_numbers, part_numbers, swept_numbers, completed_numbers};
 ghost use Rattle.star_search.specs.Call.{answered};
+ghost use Rattle.star_search.specs.Version.{version};
 
 use c_types::structs::{
     StarAnswer, StarCandidate, StarCompleted, StarPart, StarSettings, StarSlot, StarState,
@@ -16,6 +17,16 @@ use c_types::structs::{
 };
 use opening_check::open_check::Opened;
 use pattern_catalog::slot_read::{Found, Slot};
+
+// Returns the version of this interface, which is the header's STAR_SEARCH_VERSION, so that a host can compare the two. It is raised
+// whenever a struct, a function or any answer changes.
+#[unsafe(no_mangle)]
+pub extern "C" fn star_search_version() -> u32
+    ensures { result ≡ version }
+{
+    let version: u32 = 1;
+    version
+}
 
 // The opening check: 0, or the number of the question that refuses.
 #[unsafe(no_mangle)]
