@@ -1,4 +1,4 @@
-// The leaves as C functions, so that the programs in oracle/leaves can measure them.
+// The leaves as C functions, so that the programs in oracle/speed/leaves can measure them.
 ghost use Rattle.std.specs.Prelude.{◌≡◌, ◌*◌, ◌%◌, ◌^◌};
 ghost use Rattle.std.specs.Float.Ieee.{to_unsigned};
 ghost use Rattle.square_root.specs.Root.{root_of};

@@ -1,4 +1,4 @@
-// C functions for the root and the arc of each value of a slice, so that the programs in oracle/leaves can measure the leaves without a call
+// C functions for the root and the arc of each value of a slice, so that the programs in oracle/speed/leaves can measure the leaves without a call
 // for each value.
 ghost use Rattle.std.specs.Prelude.{◌≡◌, map};
 ghost use Rattle.square_root.specs.Root.{root_of};
