@@ -55,8 +55,8 @@ same_sample : AllSame sample start calls
 same_sample = (two_same.0, (two_same.1.0, (λ _. refl, tt)))
 
 -- ---- Which calls are refused.
-taken : (gs : List Given) → AllSame sample start gs → (a : ℕ) → refusal_of (last_state start gs) (lent_by (record { its_data = sample; allowance = a })) ≡ none
-taken gs h a = never_refused sample opens_sample seven_sample gs h (record { its_data = sample; allowance = a }) refl
+taken : (gs : List Given) → AllSame sample start gs → (a : ℕ) → refusal_of (last_state start gs) (lent_by (record { lent_data = sample; allowance = a })) ≡ none
+taken gs h a = never_refused sample opens_sample seven_sample gs h (record { lent_data = sample; allowance = a }) refl
 
 first_none : refusal_of start (lent_by first) ≡ none
 unfolding last_state

@@ -74,15 +74,15 @@ odd =
 
 -- The first call: the example's data, with an allowance of 1 read.
 abbrev pub first : Given
-first = record { its_data = sample; allowance = 1 }
+first = record { lent_data = sample; allowance = 1 }
 
 -- The second call: data that question 1 refuses.
 abbrev pub second : Given
-second = record { its_data = odd; allowance = 5 }
+second = record { lent_data = odd; allowance = 5 }
 
 -- The third call: the example's data, with an allowance of 7 reads. It goes on where the first call left off.
 abbrev pub third : Given
-third = record { its_data = sample; allowance = 7 }
+third = record { lent_data = sample; allowance = 7 }
 
 -- The list of the three calls.
 abbrev pub calls : List Given

@@ -5,15 +5,15 @@ use lib.Ieee.{Float, nan, inf, fin, eq, ne, is_nan, binary32, nan_bits, of_bits,
 use lib.Ieee.Bits.{nan_bits_is}
 use lib.Ieee.Compare.{differs_from_itself}
 
-nan_is : (x : Float) → is_nan x ≡ true → nan ≡ x
+nan_equal : (x : Float) → is_nan x ≡ true → nan ≡ x
 unfolding is_nan
-nan_is nan h = refl
-nan_is (inf s) h = cc
-nan_is (fin s m e) h = cc
+nan_equal nan h = refl
+nan_equal (inf s) h = cc
+nan_equal (fin s m e) h = cc
 
 -- A pattern of a NaN gives the NaN.
 pub nan_pattern : (n : ℕ) → nan_bits binary32 n ≡ true → nan ≡ of_bits binary32 n
-nan_pattern n h = nan_is (of_bits binary32 n) (sym (nan_bits_is binary32 n) ∙ h)
+nan_pattern n h = nan_equal (of_bits binary32 n) (sym (nan_bits_is binary32 n) ∙ h)
 
 -- A float that equals itself is no NaN, and a float that does not is one.
 pub equal_number : (x : Float) → eq x x ≡ true → T (not (is_nan x))

@@ -59,19 +59,19 @@ at f (suc n) t k h =
     ]
 
 -- ---- what is in a set
-and_bit : (a b : ℕ) → a < 2 → b < 2 → eqb (bit_and a b) 1 ≡ both (eqb a 1) (eqb b 1)
-and_bit zero zero p q = refl
-and_bit zero (suc zero) p q = refl
-and_bit (suc zero) zero p q = refl
-and_bit (suc zero) (suc zero) p q = refl
-and_bit (suc (suc a)) b p q = absurd (omega arith)
-and_bit zero (suc (suc b)) p q = absurd (omega arith)
-and_bit (suc zero) (suc (suc b)) p q = absurd (omega arith)
+both_bits : (a b : ℕ) → a < 2 → b < 2 → eqb (bit_and a b) 1 ≡ both (eqb a 1) (eqb b 1)
+both_bits zero zero p q = refl
+both_bits zero (suc zero) p q = refl
+both_bits (suc zero) zero p q = refl
+both_bits (suc zero) (suc zero) p q = refl
+both_bits (suc (suc a)) b p q = absurd (omega arith)
+both_bits zero (suc (suc b)) p q = absurd (omega arith)
+both_bits (suc zero) (suc (suc b)) p q = absurd (omega arith)
 
 has_and : (v m x : ℕ) → has (bit_and v m) x ≡ both (has v x) (has m x)
 has_and v m x =
     ap (λ (z : ℕ). eqb z 1) (ap (λ (z : ℕ). z % 2) (and_shr v m x) ∙ and_mod (v / 2 ^ x) (m / 2 ^ x) 1)
-    ∙ and_bit (v / 2 ^ x % 2) (m / 2 ^ x % 2) (omega arith) (omega arith)
+    ∙ both_bits (v / 2 ^ x % 2) (m / 2 ^ x % 2) (omega arith) (omega arith)
 
 pub masked_of : (v : ℕ) (t : Bool) (m x : ℕ) → T (has v x) → T (implies t (has m x)) → T (has (masked v t m) x)
 unfolding masked

@@ -28,7 +28,7 @@ module _ (c : List ℕ) (B : ℕ) where
         count = omega arith;
         hash_before = λ i k. refl;
         dist_before = λ i k. refl;
-        of_hash = λ i k. absurd (nothing i k);
+        hash_written = λ i k. absurd (nothing i k);
         dist_of = λ i k. absurd (nothing i k);
         wide = p;
         long = q;
@@ -43,13 +43,13 @@ module _ (c : List ℕ) (B : ℕ) where
         count = omega (arith, p.count, q.count, length-append l n);
         hash_before = λ i k. q.hash_before i (omega (arith, p.count)) ∙ p.hash_before i k;
         dist_before = λ i k. q.dist_before i (omega (arith, p.count)) ∙ p.dist_before i k;
-        of_hash = λ i k. elim (lt_or_le i (length l)) [
-          | inl x ↦ q.hash_before (m + i) (omega (arith, p.count)) ∙ p.of_hash i x ∙ ap (λ (z : List ℕ). hash_of z B) (sym (get_or-append l n [] i x))
+        hash_written = λ i k. elim (lt_or_le i (length l)) [
+          | inl x ↦ q.hash_before (m + i) (omega (arith, p.count)) ∙ p.hash_written i x ∙ ap (λ (z : List ℕ). hash_of z B) (sym (get_or-append l n [] i x))
           | inr x ↦
               let j = i - length l in
               let e : m + i ≡ r + j = omega (arith, p.count) in
               let g : i ≡ length l + j = omega arith in
-              ap (λ (z : ℕ). get_or h'' z 0) e ∙ q.of_hash j (omega (arith, length-append l n)) ∙ ap (λ (z : List ℕ). hash_of z B) (sym (get_or-append-add l n j []) ∙ ap (λ (z : ℕ). get_or (l ++ n) z []) (sym g))
+              ap (λ (z : ℕ). get_or h'' z 0) e ∙ q.hash_written j (omega (arith, length-append l n)) ∙ ap (λ (z : List ℕ). hash_of z B) (sym (get_or-append-add l n j []) ∙ ap (λ (z : ℕ). get_or (l ++ n) z []) (sym g))
         ];
         dist_of = λ i k. elim (lt_or_le i (length l)) [
           | inl x ↦ q.dist_before (m + i) (omega (arith, p.count)) ∙ p.dist_of i x ∙ ap (squared_distance c) (sym (get_or-append l n [] i x))
@@ -70,7 +70,7 @@ module _ (c : List ℕ) (B : ℕ) where
         count = refl;
         hash_before = λ i x. get_or-set_other h m i u 0 (λ y. omega arith);
         dist_before = λ i x. get_or-set_other d m i v 0 (λ y. omega arith);
-        of_hash = λ i x. let z : i ≡ 0 = only i x in let g : m + i ≡ m = omega arith in ap (λ (y : ℕ). get_or (set h m u) y 0) g ∙ get_or-set_same h m u 0 (omega arith) ∙ e ∙ ap (λ (y : ℕ). hash_of (get_or (k ∷ []) y []) B) (sym z);
+        hash_written = λ i x. let z : i ≡ 0 = only i x in let g : m + i ≡ m = omega arith in ap (λ (y : ℕ). get_or (set h m u) y 0) g ∙ get_or-set_same h m u 0 (omega arith) ∙ e ∙ ap (λ (y : ℕ). hash_of (get_or (k ∷ []) y []) B) (sym z);
         dist_of = λ i x. let z : i ≡ 0 = only i x in let g : m + i ≡ m = omega arith in ap (λ (y : ℕ). get_or (set d m v) y 0) g ∙ get_or-set_same d m v 0 (omega arith) ∙ f ∙ ap (λ (y : ℕ). squared_distance c (get_or (k ∷ []) y [])) (sym z);
         wide = length-set h m u ∙ p;
         long = length-set d m v ∙ q;
@@ -226,7 +226,7 @@ module _ (c lo hi : List ℕ) (B : ℕ) (w : Narrow lo hi) (l : Listed lo hi c) 
   plus i = omega arith
 
   hash_at : (i : ℕ) → i < n → get_or hashes i 0 ≡ hash_of (get_or (in_range lo hi) i []) B
-  hash_at i k = ap (λ (z : ℕ). get_or hashes z 0) (sym (plus i)) ∙ q.of_hash i (omega (arith, loops_count))
+  hash_at i k = ap (λ (z : ℕ). get_or hashes z 0) (sym (plus i)) ∙ q.hash_written i (omega (arith, loops_count))
 
   dist_at : (i : ℕ) → i < n → get_or dist i 0 ≡ squared_distance c (get_or (in_range lo hi) i [])
   dist_at i k = ap (λ (z : ℕ). get_or dist z 0) (sym (plus i)) ∙ q.dist_of i (omega (arith, loops_count))

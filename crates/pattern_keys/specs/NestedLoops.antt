@@ -28,7 +28,7 @@ pub record Enumerated (c : List ℕ) (B : ℕ) (hash dist hash' dist' : List ℕ
   pub count : r ≡ m + length l
   pub hash_before : (i : ℕ) → i < m → get_or hash' i 0 ≡ get_or hash i 0
   pub dist_before : (i : ℕ) → i < m → get_or dist' i 0 ≡ get_or dist i 0
-  pub of_hash : (i : ℕ) → i < length l → get_or hash' (m + i) 0 ≡ hash_of (get_or l i []) B
+  pub hash_written : (i : ℕ) → i < length l → get_or hash' (m + i) 0 ≡ hash_of (get_or l i []) B
   pub dist_of : (i : ℕ) → i < length l → get_or dist' (m + i) 0 ≡ squared_distance c (get_or l i [])
   pub wide : length hash' ≡ 1024
   pub long : length dist' ≡ 1024

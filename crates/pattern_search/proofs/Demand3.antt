@@ -56,7 +56,7 @@ pub reads_a_slot : ReadsASlot
 unfolding lent_of
 reads_a_slot st g h p = by (progress_any st (lent_by g) h p)
   where
-    by : (st.reads < (search_call st (lent_by g)).1.reads) ⊎ ((s : Status) × (resume (first_read (feed g.its_data) g.its_data.frame.config.cap) st.phase ≡ Ends s) × ((search_call st (lent_by g)).0 ≡ over s)) → (st.reads < (returned st g).state.reads) ⊎ ((s : Status) × (resume (first_read (feed g.its_data) g.its_data.frame.config.cap) st.phase ≡ Ends s) × (searched_says (returned st g) ≡ over s))
+    by : (st.reads < (search_call st (lent_by g)).1.reads) ⊎ ((s : Status) × (resume (first_read (feed g.lent_data) g.lent_data.frame.config.cap) st.phase ≡ Ends s) × ((search_call st (lent_by g)).0 ≡ over s)) → (st.reads < (returned st g).state.reads) ⊎ ((s : Status) × (resume (first_read (feed g.lent_data) g.lent_data.frame.config.cap) st.phase ≡ Ends s) × (searched_says (returned st g) ≡ over s))
     by (inl l) = inl l
     by (inr (s, e, o)) = inr (s, e, says (search_call st (lent_by g)) ∙ o)
 
@@ -85,11 +85,11 @@ seven_none D st h = by (first_seven D.frame D.slots D.words D.stars) _ h
     by (some k) p e = absurd (let z : ◌≡◌ {A = ℕ} 0 1 = cc in omega arith)
 
 module _ (D : Data) where
-  keyed_by : (st : State) (g : Given) → g.its_data ≡ D → refusal_of st (lent_by g) ≡ none → Keyed (feed D)
+  keyed_by : (st : State) (g : Given) → g.lent_data ≡ D → refusal_of st (lent_by g) ≡ none → Keyed (feed D)
   unfolding lent_of
   keyed_by st g e h =
-      let s = seven_none g.its_data st (asked_none st (lent_by g) h) in
-      subst (λ X. Keyed (feed X)) e (every_combination_keyed g.its_data (seven_asked _ _ _ _ s))
+      let s = seven_none g.lent_data st (asked_none st (lent_by g) h) in
+      subst (λ X. Keyed (feed X)) e (every_combination_keyed g.lent_data (seven_asked _ _ _ _ s))
 
   fed_alike : (st : State) (gs : List Given) → AllSame D st gs → FedAlikeList (feed D) D.frame.config.cap st (map lent_by gs)
   unfolding lent_of
@@ -171,10 +171,10 @@ eight_true_of D st h = by (first_seven D.frame D.slots D.words D.stars) (state_f
 
 pub candidate_read : CandidateRead
 unfolding lent_of search_call cases
-candidate_read st g x h = by (first_no g.its_data st) refl (sym (says (search_call st (lent_by g))) ∙ h)
+candidate_read st g x h = by (first_no g.lent_data st) refl (sym (says (search_call st (lent_by g))) ∙ h)
   where
     D : Data
-    D = g.its_data
+    D = g.lent_data
 
     by : (o : Option ℕ) → first_no D st ≡ o → (cases o (search (feed D) D.frame.config.cap st g.allowance) λ k. (refused k, st)).0 ≡ candidate x → (first_seven D.frame D.slots D.words D.stars ≡ none) × (r : Position) × ReadExists (feed D) r × (valid_at (feed D) r ≡ true) × (gives (feed D) r ≡ some x)
     by none n e =

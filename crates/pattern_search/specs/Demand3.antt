@@ -20,12 +20,12 @@ use Rattle.pattern_search.specs.declared.Searched.{Searched}
 
 -- What one call is given beside the state: the data, settings and table, and the allowance.
 pub record Given : Type 0 where
-  pub its_data : Data
+  pub lent_data : Data
   pub allowance : ℕ
 
 -- What one call is lent, in the form that the definitions of undivided_run take.
 abbrev pub lent_by : Given → Lent (List ℕ) Candidate
-lent_by g = lent_of g.its_data g.allowance
+lent_by g = lent_of g.lent_data g.allowance
 
 -- What `search` returns, as its contract says.
 abbrev pub returned : State → Given → Searched
@@ -49,7 +49,7 @@ module _ (D : Data) where
   -- The calls are given, "all not refused the same data, settings and table", which are D; a refused call may be given anything.
   abbrev pub AllSame : State → List Given → Type 0
   AllSame st [] = Unit {0}
-  AllSame st (g ∷ gs) = (refusal_of st (lent_by g) ≡ none → g.its_data ≡ D) × AllSame (returned st g).state gs
+  AllSame st (g ∷ gs) = (refusal_of st (lent_by g) ≡ none → g.lent_data ≡ D) × AllSame (returned st g).state gs
 
   -- The undivided run of what D holds.
   abbrev pub run : Run
@@ -92,24 +92,24 @@ EachPart = (D : Data) → Opens D → (gs hs : List Given) → AllSame D start (
 -- After such a list, a call given the same data, settings and table is refused under no number, if questions 1 to 7 are answered yes:
 -- `never_refused`.
 abbrev pub NeverRefused : Type 0
-NeverRefused = (D : Data) → Opens D → first_seven D.frame D.slots D.words D.stars ≡ none → (gs : List Given) → AllSame D start gs → (g : Given) → g.its_data ≡ D → refusal_of (last_state start gs) (lent_by g) ≡ none
+NeverRefused = (D : Data) → Opens D → first_seven D.frame D.slots D.words D.stars ≡ none → (gs : List Given) → AllSame D start gs → (g : Given) → g.lent_data ≡ D → refusal_of (last_state start gs) (lent_by g) ≡ none
 
 -- With the opening check passed and nothing else asked, such a call is not refused, or it is refused by one of questions 1 to 5:
 -- `refused_at_most_five`.
 abbrev pub RefusedAtMostFive : Type 0
-RefusedAtMostFive = (D : Data) → Opens D → (gs : List Given) → AllSame D start gs → (g : Given) → g.its_data ≡ D
+RefusedAtMostFive = (D : Data) → Opens D → (gs : List Given) → AllSame D start gs → (g : Given) → g.lent_data ≡ D
     → (refusal_of (last_state start gs) (lent_by g) ≡ none) ⊎ ((k : ℕ) × (refusal_of (last_state start gs) (lent_by g) ≡ some k) × (k ≤ 5))
 
 -- "A call not refused and allowed a read reads a slot unless no read is left."; if none is left, it answers ended: `reads_a_slot`.
 abbrev pub ReadsASlot : Type 0
 ReadsASlot = (st : State) (g : Given) → refusal_of st (lent_by g) ≡ none → (0 < g.allowance)
     → (st.reads < (returned st g).state.reads)
-    ⊎ ((s : Status) × (resume (first_read (feed g.its_data) g.its_data.frame.config.cap) st.phase ≡ Ends s) × (searched_says (returned st g) ≡ over s))
+    ⊎ ((s : Status) × (resume (first_read (feed g.lent_data) g.lent_data.frame.config.cap) st.phase ≡ Ends s) × (searched_says (returned st g) ≡ over s))
 
 -- After a list of demand 3, a call not refused and allowed a read makes a read, or the run has no read after those counted and the call answers ended
 -- with the run's status: `reads_on_the_run`.
 abbrev pub ReadsOnTheRun : Type 0
-ReadsOnTheRun = (D : Data) → Opens D → (gs : List Given) → AllSame D start gs → (g : Given) → g.its_data ≡ D → refusal_of (last_state start gs) (lent_by g) ≡ none → (0 < g.allowance)
+ReadsOnTheRun = (D : Data) → Opens D → (gs : List Given) → AllSame D start gs → (g : Given) → g.lent_data ≡ D → refusal_of (last_state start gs) (lent_by g) ≡ none → (0 < g.allowance)
     → ((last_state start gs).reads < (returned (last_state start gs) g).state.reads)
     ⊎ ((drop (last_state start gs).reads (run D).reads ≡ []) × (searched_says (returned (last_state start gs) g) ≡ over (run D).status))
 
@@ -117,8 +117,8 @@ ReadsOnTheRun = (D : Data) → Opens D → (gs : List Given) → AllSame D start
 -- `candidate_read`.
 abbrev pub CandidateRead : Type 0
 CandidateRead = (st : State) (g : Given) (x : Candidate) → searched_says (returned st g) ≡ candidate x
-    → (first_seven g.its_data.frame g.its_data.slots g.its_data.words g.its_data.stars ≡ none)
-    × (r : Position) × ReadExists (feed g.its_data) r × (valid_at (feed g.its_data) r ≡ true) × (gives (feed g.its_data) r ≡ some x)
+    → (first_seven g.lent_data.frame g.lent_data.slots g.lent_data.words g.lent_data.stars ≡ none)
+    × (r : Position) × ReadExists (feed g.lent_data) r × (valid_at (feed g.lent_data) r ≡ true) × (gives (feed g.lent_data) r ≡ some x)
 
 -- A call that answers "allowance used" made exactly its allowance of reads: `uses_its_allowance`.
 abbrev pub UsesItsAllowance : Type 0

@@ -118,7 +118,7 @@ fn go(
     allowance: u64,
 ) -> Searched
     requires { first_seven (frame_of centroids.now order.now config passes.now) slots words.now stars.now ≡ none }
-    ensures { result ≡ returned st (record { its_data = data_of (frame_of centroids.now order.now config passes.now) slots words.now packed.now stars.now; allowance = allowance }) }
+    ensures { result ≡ returned st (record { lent_data = data_of (frame_of centroids.now order.now config passes.now) slots words.now packed.now stars.now; allowance = allowance }) }
 {
     let mut places = no_places();
     let mut geometry = no_geometry();
@@ -192,8 +192,8 @@ pub fn search(
     state: State,
     allowance: u64,
 ) -> Searched
-    ensures returned { result ≡ returned state (record { its_data = data_of (frame_of centroids.now order.now config passes.now) slots words.now packed.now stars.now; allowance = allowance }) }
-    ensures says { reply_says result ≡ search_call state (lent_by (record { its_data = data_of (frame_of centroids.now order.now config passes.now) slots words.now packed.now stars.now; allowance = allowance })) }
+    ensures returned { result ≡ returned state (record { lent_data = data_of (frame_of centroids.now order.now config passes.now) slots words.now packed.now stars.now; allowance = allowance }) }
+    ensures says { reply_says result ≡ search_call state (lent_by (record { lent_data = data_of (frame_of centroids.now order.now config passes.now) slots words.now packed.now stars.now; allowance = allowance })) }
 {
     match search_questions::questions_1_to_7::first_seven(
         centroids, order, config, passes, slots, words, stars,

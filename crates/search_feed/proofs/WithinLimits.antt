@@ -22,13 +22,13 @@ use Rattle.search_feed.proofs.KeptSpots.{kept_few, image_ratios}
 abbrev pub fitting : (c : SearchConfig) → settings_ok c ≡ true → Fitting c.bins c.checking c.error c.radius c.matching c.fov
 fitting c h = settings_fitting c.bins c.checking c.error c.radius c.matching c.fov h
 
-pub of_tolerance : (c : SearchConfig) → settings_ok c ≡ true → NarrowTolerance (tolerance_in c) c.bins
-of_tolerance c h = (fitting c h).narrow
+pub tolerance_narrow : (c : SearchConfig) → settings_ok c ≡ true → NarrowTolerance (tolerance_in c) c.bins
+tolerance_narrow c h = (fitting c h).narrow
 
 module _ (F : Frame) (a : FrameFits F) (i : ℕ) (h : i < length F.passes / 3) (q : Combination) (r : Rising (length (kept_places F i)) q) where
   pub keys_counted : (0 < length (keys_in F.config (image_at F i q))) × (length (keys_in F.config (image_at F i q)) ≤ 1024)
   unfolding keys_in
-  keys_counted = keys_count _ (tolerance_in F.config) F.config.bins (image_ratios F a i h q r) (of_tolerance F.config a.four)
+  keys_counted = keys_count _ (tolerance_in F.config) F.config.bins (image_ratios F a i h q r) (tolerance_narrow F.config a.four)
 
 pub every_combination_keyed : EveryCombinationKeyed
 unfolding feed

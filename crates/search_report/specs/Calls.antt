@@ -9,7 +9,7 @@ use Rattle.pattern_search.specs.Demand3.{returned}
 
 -- What one call of the search returns, given its data, a state and an allowance.
 abbrev pub called : Data → State → ℕ → Searched
-called D st allowance = returned st (record { its_data = D; allowance = allowance })
+called D st allowance = returned st (record { lent_data = D; allowance = allowance })
 
 -- Whether a call was let through by the questions.
 unfoldable pub let_through : Answer → Bool

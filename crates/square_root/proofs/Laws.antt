@@ -109,8 +109,8 @@ zero_under true e (fin false (suc n) d) a c v =
     more a b h = omega arith
 
 -- ---- not below zero
-of_root : (m : ℕ) (e : ℤ) → HasValue (root_of (fin false (suc m) e)) false (units (suc m * up e * 2 ^ 298 / down e)) (2 ^ 149)
-of_root m e = subst (λ (x : Float). HasValue x false (units (suc m * up e * 2 ^ 298 / down e)) (2 ^ 149)) (sym (root_pos m e)) (whole_value (suc m * up e * 2 ^ 298 / down e))
+root_has_value : (m : ℕ) (e : ℤ) → HasValue (root_of (fin false (suc m) e)) false (units (suc m * up e * 2 ^ 298 / down e)) (2 ^ 149)
+root_has_value m e = subst (λ (x : Float). HasValue x false (units (suc m * up e * 2 ^ 298 / down e)) (2 ^ 149)) (sym (root_pos m e)) (whole_value (suc m * up e * 2 ^ 298 / down e))
 
 root_same : (s : Bool) (e : ℤ) → root_of (fin s zero e) ≡ fin s zero e
 unfolding root_of
@@ -136,7 +136,7 @@ root_not_below (inf true) h = absurd (zero_over_inf h)
 root_not_below (inf false) h = subst (λ (y : Float). T (le plus_zero y)) (sym root_inf) h
 root_not_below (fin s zero e) h = subst (λ (y : Float). T (le plus_zero y)) (sym (root_same s e)) h
 root_not_below (fin true (suc m) e) h = absurd (zero_over_negative false (pos 0) m e h)
-root_not_below (fin false (suc m) e) h = zero_under false (pos 0) (root_of (fin false (suc m) e)) (units (suc m * up e * 2 ^ 298 / down e)) (2 ^ 149) (of_root m e)
+root_not_below (fin false (suc m) e) h = zero_under false (pos 0) (root_of (fin false (suc m) e)) (units (suc m * up e * 2 ^ 298 / down e)) (2 ^ 149) (root_has_value m e)
 
 finite_of_value : (x : Float) (a c : ℕ) → HasValue x false a c → T (finite x)
 finite_of_value nan a c v = v
@@ -148,7 +148,7 @@ root_finite nan f h = absurd f
 root_finite (inf s) f h = absurd f
 root_finite (fin s zero e) f h = subst (λ (y : Float). T (finite y)) (sym (root_same s e)) tt
 root_finite (fin true (suc m) e) f h = absurd (zero_over_negative false (pos 0) m e h)
-root_finite (fin false (suc m) e) f h = finite_of_value (root_of (fin false (suc m) e)) (units (suc m * up e * 2 ^ 298 / down e)) (2 ^ 149) (of_root m e)
+root_finite (fin false (suc m) e) f h = finite_of_value (root_of (fin false (suc m) e)) (units (suc m * up e * 2 ^ 298 / down e)) (2 ^ 149) (root_has_value m e)
 
 -- ---- order
 under_inf : (x : Float) → T (le plus_zero x) → T (le x (inf false))
@@ -188,12 +188,12 @@ root_mono (fin s zero e) (fin t zero d) h k = subst (λ (x : Float). T (le x (ro
 root_mono (fin s zero e) (fin true (suc n) d) h k = absurd (zero_over_negative s e n d k)
 root_mono (fin s zero e) (fin false (suc n) d) h k =
     subst (λ (x : Float). T (le x (root_of (fin false (suc n) d)))) (sym (root_same s e))
-    (zero_under s e (root_of (fin false (suc n) d)) (units (suc n * up d * 2 ^ 298 / down d)) (2 ^ 149) (of_root n d))
+    (zero_under s e (root_of (fin false (suc n) d)) (units (suc n * up d * 2 ^ 298 / down d)) (2 ^ 149) (root_has_value n d))
 root_mono (fin false (suc m) e) (fin t zero d) h k = absurd (positive_under_zero m e t d k)
 root_mono (fin false (suc m) e) (fin true (suc n) d) h k = absurd (positive_under_negative m e n d k)
 root_mono (fin false (suc m) e) (fin false (suc n) d) h k =
     le_of_values (root_of (fin false (suc m) e)) (root_of (fin false (suc n) d))
-    (units (suc m * up e * 2 ^ 298 / down e)) (2 ^ 149) (units (suc n * up d * 2 ^ 298 / down d)) (2 ^ 149) (pow_pos 149) (pow_pos 149) (of_root m e) (of_root n d)
+    (units (suc m * up e * 2 ^ 298 / down e)) (2 ^ 149) (units (suc n * up d * 2 ^ 298 / down d)) (2 ^ 149) (pow_pos 149) (pow_pos 149) (root_has_value m e) (root_has_value n d)
     (mul-le-mul_right (2 ^ 149) (units_mono (suc m * up e * 2 ^ 298 / down e) (suc n * up d * 2 ^ 298 / down d) (whole_mono m e n d k)))
 
 -- The root of what is at most 0.25 is at most 0.5.

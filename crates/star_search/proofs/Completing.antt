@@ -93,7 +93,7 @@ pub completable : Completable
 completable st g x scale h sc =
     let (s, r, here, valid, e) = candidate_read st g x h in
     let q = seven_asked _ _ _ _ s in
-    let v = (gives_exactly g.its_data r x).0 e in
+    let v = (gives_exactly g.lent_data r x).0 e in
     (done_exactly _ _ _ _ x scale).1
     (record {
       one = q.one;
@@ -101,8 +101,8 @@ completable st g x scale h sc =
       three = q.three;
       five = q.five;
       seven = seven_stars _ _ _ _ s;
-      fourteen = fits g.its_data r x here valid v scale sc;
-      nine = stars_valid g.its_data r x here valid v;
+      fourteen = fits g.lent_data r x here valid v scale sc;
+      nine = stars_valid g.lent_data r x here valid v;
     })
 
 -- ---- Through C, where the answer 0 is that of a candidate.
@@ -122,7 +122,7 @@ completable_through_c raw g scale h sc =
     let (x, e, c) = zero_candidate raw g.allowance (search_call st (lent_by (given_by g))) h in
     let f = says (search_call st (lent_by (given_by g))) ∙ e in
     let (s, r, here, valid, o) = candidate_read st (given_by g) x f in
-    let l = four_each (given_by g).its_data r x here valid ((gives_exactly (given_by g).its_data r x).0 o) in
+    let l = four_each (given_by g).lent_data r x here valid ((gives_exactly (given_by g).lent_data r x).0 o) in
     let b : candidate_from (answered raw g).candidate ≡ x = ap candidate_from c ∙ candidate_back x l.0 l.1 in
     let made = completed_of g.centroids g.order g.passes g.stars in
     ap (λ z. (completed_numbers (made z scale)).answer) b ∙ done_zero (made x scale) (completable st (given_by g) x scale f sc)

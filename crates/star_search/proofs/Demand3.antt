@@ -73,7 +73,7 @@ module _ (raw : StarState) (g : Call) (z : g.allowance ≡ 0) where
   answered_by t = answer_of raw g.allowance (searched t)
 
   zero_shown : (t : Answer Candidate × State) → NoReadMade (state_of raw) (lent_by (given_by g)) t
-      → ((k : ℕ) × (first_no (given_by g).its_data (state_of raw) ≡ some k) × ((answered_by t).answer ≡ 3) × ((answered_by t).number ≡ k) × ((answered_by t).state ≡ raw))
+      → ((k : ℕ) × (first_no (given_by g).lent_data (state_of raw) ≡ some k) × ((answered_by t).answer ≡ 3) × ((answered_by t).number ≡ k) × ((answered_by t).state ≡ raw))
       ⊎ ((s : Status) × (next_of raw g ≡ Ends s) × ((answered_by t).answer ≡ 2) × ((answered_by t).number ≡ status_number s))
       ⊎ ((r : Position) × (next_of raw g ≡ Goes r) × ((answered_by t).answer ≡ 1) × ((answered_by t).state ≡ raw))
   unfolding said shown lent_of
@@ -116,8 +116,8 @@ not_unknown : (rs : List Position) (st : State) → st.patterns ≡ tried (take 
 unfolding unknown tried
 not_unknown rs st e u = absurd (omega (arith, subst (λ (z : State). z.patterns ≡ tried (take z.reads rs)) u e))
 
-on_phase : (run : Run) (m : Machine) (st : State) → Leaves run m st → stage_number st.phase ≡ phase_on m.final m.taken
-on_phase run m st l = by m.final refl m.taken refl
+phase_agrees : (run : Run) (m : Machine) (st : State) → Leaves run m st → stage_number st.phase ≡ phase_on m.final m.taken
+phase_agrees run m st l = by m.final refl m.taken refl
   where
     by : (o : Option Status) → m.final ≡ o → (n : ℕ) → m.taken ≡ n → stage_number st.phase ≡ phase_on o n
     by (some s) e n f = ap stage_number (l.ended s e)
@@ -136,7 +136,7 @@ listed_through_c D o raw e gs h =
     let z : state_of (last_raw raw gs) ≡ last_state start (map given_by gs) = same_last raw gs ∙ ap (λ st. last_state st (map given_by gs)) e in
     let w = shows (last_raw raw gs) (last_state start (map given_by gs)) z (not_unknown (run D).reads _ l.patterns) in
     let a : map said_by (answers raw gs) ≡ map numbers_of (answers_of (replies start (map given_by gs))) = same_answers raw gs ∙ ap (λ st. map numbers_of (answers_of (replies st (map given_by gs)))) e in
-    let p = w.phase ∙ on_phase _ _ _ l.leaves in
+    let p = w.phase ∙ phase_agrees _ _ _ l.leaves in
     record {
       answers_are = a ∙ ap (map numbers_of) l.answers;
       found_in_order = ap found_in a ∙ found_numbers _ ∙ ap (map candidate_numbers) l.found_in_order ∙ rw w.reads;
@@ -144,7 +144,7 @@ listed_through_c D o raw e gs h =
       patterns = w.patterns ∙ l.patterns ∙ rw w.reads;
       phase = p;
       status = λ s f. w.status s (l.leaves.ended s f);
-      read_next = λ f.
+      next_position = λ f.
           let q = next_on _ _ (sym p ∙ f) in
           let k = l.leaves.onward q.0 q.1 in
           (k.0, k.1, ap (λ n. drop n (run D).reads) (w.reads ∙ l.reads) ∙ k.2, w.place k.0 k.3);

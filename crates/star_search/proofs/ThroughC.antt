@@ -27,7 +27,7 @@ module _ (centroids : List Float) (order : List ℕ) (passes stars : List Float)
   module _ (settings : StarSettings) (slots : ℕ) (words packed : List ℕ) (raw : StarState) (allowance : ℕ) where
     -- What the search returns for a state and settings.
     abbrev says : State → SearchConfig → Searched
-    says st config = returned st (record { its_data = data_of (frame_of centroids order config passes) slots words packed stars; allowance = allowance })
+    says st config = returned st (record { lent_data = data_of (frame_of centroids order config passes) slots words packed stars; allowance = allowance })
 
     -- What the call is given beside the state.
     abbrev lent : Call

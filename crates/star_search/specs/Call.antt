@@ -25,7 +25,7 @@ pub record Call : Type 0 where
 abbrev pub given_by : Call → Given
 given_by g =
     record {
-      its_data = data_of (frame_of g.centroids g.order (config_of g.settings) g.passes) g.slots g.words g.packed g.stars;
+      lent_data = data_of (frame_of g.centroids g.order (config_of g.settings) g.passes) g.slots g.words g.packed g.stars;
       allowance = g.allowance;
     }
 

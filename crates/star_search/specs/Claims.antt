@@ -46,14 +46,14 @@ CandidateBack = (c : Candidate) → length c.places ≡ 4 → length c.stars ≡
 
 -- What comes next at a state as received: a read, or the status that ends the run.
 abbrev pub next_of : StarState → Call → Next
-next_of raw g = let D = (given_by g).its_data in resume (first_read (feed D) D.frame.config.cap) (state_of raw).phase
+next_of raw g = let D = (given_by g).lent_data in resume (first_read (feed D) D.frame.config.cap) (state_of raw).phase
 
 -- "When no read is left the answer is ended, even with allowance 0; otherwise allowance 0 changes nothing": with allowance 0 a call is refused (3)
 -- by the first no of questions 1 to 8; else it is ended (2) with its status where no read is left, and answers "allowance used" (1) where one is.
 -- With 3 and with 1 it gives back the state as received, with its unused numbers: `zero_changes_nothing`.
 abbrev pub ZeroChangesNothing : Type 0
 ZeroChangesNothing = (raw : StarState) (g : Call) → g.allowance ≡ 0
-    → ((k : ℕ) × (first_no (given_by g).its_data (state_of raw) ≡ some k) × ((answered raw g).answer ≡ 3) × ((answered raw g).number ≡ k) × ((answered raw g).state ≡ raw))
+    → ((k : ℕ) × (first_no (given_by g).lent_data (state_of raw) ≡ some k) × ((answered raw g).answer ≡ 3) × ((answered raw g).number ≡ k) × ((answered raw g).state ≡ raw))
     ⊎ ((s : Status) × (next_of raw g ≡ Ends s) × ((answered raw g).answer ≡ 2) × ((answered raw g).number ≡ status_number s))
     ⊎ ((r : Position) × (next_of raw g ≡ Goes r) × ((answered raw g).answer ≡ 1) × ((answered raw g).state ≡ raw))
 
@@ -80,7 +80,7 @@ PartAsNumbers = (packed : List ℕ) (a : Answer) → take (part_numbers a).lengt
 -- A candidate that a search gave can be completed with the same frame and stars and any scale above 0 and at most 16: `completable`.
 abbrev pub Completable : Type 0
 Completable = (st : State) (g : Given) (x : Candidate) (scale : Float) → searched_says (returned st g) ≡ candidate x → scale_fits scale ≡ true
-    → (completed_of g.its_data.frame.centroids g.its_data.frame.order g.its_data.frame.passes g.its_data.stars x scale).answer ≡ Completion.Done
+    → (completed_of g.lent_data.frame.centroids g.lent_data.frame.order g.lent_data.frame.passes g.lent_data.stars x scale).answer ≡ Completion.Done
 
 -- A candidate that `star_search` gave can be completed by `star_complete` in the same way: `completable_through_c`.
 abbrev pub CompletableThroughC : Type 0

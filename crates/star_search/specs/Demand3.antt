@@ -79,7 +79,7 @@ pub record SeenFromC (D : Data) (raw : StarState) (gs : List Call) : Type 0 wher
   -- Where the machine has ended with a status, the state has the number of that status.
   pub status : (s : Status) → (on_run D (map given_by gs)).1.final ≡ some s → (last_raw raw gs).status ≡ status_number s
   -- Where the state is at its next read, its numbers name the read of the run that comes next.
-  pub read_next : (last_raw raw gs).phase ≡ 1 → (r : Position) × (rs : List Position) × (drop (last_raw raw gs).reads (run D).reads ≡ r ∷ rs) × (position_of (last_raw raw gs) ≡ r)
+  pub next_position : (last_raw raw gs).phase ≡ 1 → (r : Position) × (rs : List Position) × (drop (last_raw raw gs).reads (run D).reads ≡ r ∷ rs) × (position_of (last_raw raw gs) ≡ r)
   -- The state means the one that the same list of calls of the search itself leaves.
   pub state : state_of (last_raw raw gs) ≡ last_state start (map given_by gs)
 

@@ -23,28 +23,25 @@ loop-offset-init c =
 pub shape_of-out-then-not-estimate-offset : goal.shape_of-out-then-not-estimate-offset
 shape_of-out-then-not-estimate-offset c =
     let l = c.loop-offset in
-    let s = c in
-    let a = s.args in
+    let a = c.args in
     let w = l.invariant.1 in
     let m = at_most a.estimate a.reach a.step _ l.out l.at l.offset l.invariant.0 w in
     let some : 0 < l.invariant.0 = omega (arith, l.invariant.2) in
-    start_length a.estimate a.reach a.step a.out.now s.requires l.out l.at l.offset l.invariant.0 w
+    start_length a.estimate a.reach a.step a.out.now c.requires l.out l.at l.offset l.invariant.0 w
 
 pub returns-then-not-estimate-offset : goal.returns-then-not-estimate-offset
 returns-then-not-estimate-offset c =
     let l = c.loop-offset in
-    let s = c in
-    let a = s.args in
+    let a = c.args in
     let w = l.invariant.1 in
     let m = at_most a.estimate a.reach a.step _ l.out l.at l.offset l.invariant.0 w in
     let some : 0 < l.invariant.0 = omega (arith, l.invariant.2) in
-    all_written a.estimate a.reach a.step a.out.now s.requires l.out l.at l.offset l.invariant.0 w (at_pi a.estimate a.reach a.step l.offset l.invariant.0 some c.loop-offset-test.true (not-true (lt (add binary32 a.estimate l.offset) pi32) c.if-not-estimate-offset.true-raw))
+    all_written a.estimate a.reach a.step a.out.now c.requires l.out l.at l.offset l.invariant.0 w (at_pi a.estimate a.reach a.step l.offset l.invariant.0 some c.loop-offset-test.true (not-true (lt (add binary32 a.estimate l.offset) pi32) c.if-not-estimate-offset.true-raw))
 
 pub put_pair-at-requires : goal.put_pair-at-requires
 put_pair-at-requires c =
     let l = c.loop-offset in
-    let s = c in
-    let a = s.args in
+    let a = c.args in
     let w = l.invariant.1 in
     let m = at_most a.estimate a.reach a.step _ l.out l.at l.offset l.invariant.0 w in
     let some : 0 < l.invariant.0 = omega (arith, l.invariant.2) in
@@ -53,28 +50,25 @@ put_pair-at-requires c =
 pub shape_of-out-then-next-offset : goal.shape_of-out-then-next-offset
 shape_of-out-then-next-offset c =
     let l = c.loop-offset in
-    let s = c in
-    let a = s.args in
+    let a = c.args in
     let w = l.invariant.1 in
     let m = at_most a.estimate a.reach a.step _ l.out l.at l.offset l.invariant.0 w in
     let some : 0 < l.invariant.0 = omega (arith, l.invariant.2) in
-    start_length a.estimate a.reach a.step a.out.now s.requires _ _ (add binary32 l.offset a.step) 0 (written_last a.estimate a.reach a.step _ l.out l.at l.offset l.invariant.0 w _ _ (last_pair a.estimate a.reach a.step l.offset l.invariant.0 some c.loop-offset-test.true (not-false (lt (add binary32 a.estimate l.offset) pi32) c.if-not-estimate-offset.false-raw) c.if-next-offset.true) c.put_pair-at.ensures.1)
+    start_length a.estimate a.reach a.step a.out.now c.requires _ _ (add binary32 l.offset a.step) 0 (written_last a.estimate a.reach a.step _ l.out l.at l.offset l.invariant.0 w _ _ (last_pair a.estimate a.reach a.step l.offset l.invariant.0 some c.loop-offset-test.true (not-false (lt (add binary32 a.estimate l.offset) pi32) c.if-not-estimate-offset.false-raw) c.if-next-offset.true) c.put_pair-at.ensures.1)
 
 pub returns-then-next-offset : goal.returns-then-next-offset
 returns-then-next-offset c =
     let l = c.loop-offset in
-    let s = c in
-    let a = s.args in
+    let a = c.args in
     let w = l.invariant.1 in
     let m = at_most a.estimate a.reach a.step _ l.out l.at l.offset l.invariant.0 w in
     let some : 0 < l.invariant.0 = omega (arith, l.invariant.2) in
-    all_written a.estimate a.reach a.step a.out.now s.requires _ _ (add binary32 l.offset a.step) 0 (written_last a.estimate a.reach a.step _ l.out l.at l.offset l.invariant.0 w _ _ (last_pair a.estimate a.reach a.step l.offset l.invariant.0 some c.loop-offset-test.true (not-false (lt (add binary32 a.estimate l.offset) pi32) c.if-not-estimate-offset.false-raw) c.if-next-offset.true) c.put_pair-at.ensures.1) (none_left a.estimate a.reach a.step (add binary32 l.offset a.step))
+    all_written a.estimate a.reach a.step a.out.now c.requires _ _ (add binary32 l.offset a.step) 0 (written_last a.estimate a.reach a.step _ l.out l.at l.offset l.invariant.0 w _ _ (last_pair a.estimate a.reach a.step l.offset l.invariant.0 some c.loop-offset-test.true (not-false (lt (add binary32 a.estimate l.offset) pi32) c.if-not-estimate-offset.false-raw) c.if-next-offset.true) c.put_pair-at.ensures.1) (none_left a.estimate a.reach a.step (add binary32 l.offset a.step))
 
 pub loop-offset-smaller : goal.loop-offset-smaller
 loop-offset-smaller c =
     let l = c.loop-offset in
-    let s = c in
-    let a = s.args in
+    let a = c.args in
     let w = l.invariant.1 in
     let m = at_most a.estimate a.reach a.step _ l.out l.at l.offset l.invariant.0 w in
     let some : 0 < l.invariant.0 = omega (arith, l.invariant.2) in
@@ -83,8 +77,7 @@ loop-offset-smaller c =
 pub loop-offset-preserved : goal.loop-offset-preserved
 loop-offset-preserved c =
     let l = c.loop-offset in
-    let s = c in
-    let a = s.args in
+    let a = c.args in
     let w = l.invariant.1 in
     let m = at_most a.estimate a.reach a.step _ l.out l.at l.offset l.invariant.0 w in
     let some : 0 < l.invariant.0 = omega (arith, l.invariant.2) in
@@ -99,19 +92,17 @@ loop-offset-preserved c =
 pub shape_of-out : goal.shape_of-out
 shape_of-out c =
     let l = c.loop-offset in
-    let s = c in
-    let a = s.args in
+    let a = c.args in
     let w = l.invariant.1 in
     let m = at_most a.estimate a.reach a.step _ l.out l.at l.offset l.invariant.0 w in
     let some : 0 < l.invariant.0 = omega (arith, l.invariant.2) in
-    start_length a.estimate a.reach a.step a.out.now s.requires l.out l.at l.offset l.invariant.0 w
+    start_length a.estimate a.reach a.step a.out.now c.requires l.out l.at l.offset l.invariant.0 w
 
 pub returns : goal.returns
 returns c =
     let l = c.loop-offset in
-    let s = c in
-    let a = s.args in
+    let a = c.args in
     let w = l.invariant.1 in
     let m = at_most a.estimate a.reach a.step _ l.out l.at l.offset l.invariant.0 w in
     let some : 0 < l.invariant.0 = omega (arith, l.invariant.2) in
-    all_written a.estimate a.reach a.step a.out.now s.requires l.out l.at l.offset l.invariant.0 w (out_of_reach a.estimate a.reach a.step l.offset l.invariant.0 some c.loop-offset-test.false)
+    all_written a.estimate a.reach a.step a.out.now c.requires l.out l.at l.offset l.invariant.0 w (out_of_reach a.estimate a.reach a.step l.offset l.invariant.0 some c.loop-offset-test.false)

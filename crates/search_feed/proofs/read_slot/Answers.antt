@@ -10,18 +10,15 @@ use Rattle.search_feed.proofs.read_slot.Goals as goal
 
 pub slot_of_probe-slot-requires : goal.slot_of_probe-slot-requires
 slot_of_probe-slot-requires c =
-    let b = c in
-    (omega arith, fits_few b.args.slots b.args.words.now b.requires.7, b.requires.1)
+    (omega arith, fits_few c.args.slots c.args.words.now c.requires.7, c.requires.1)
 
 pub find_in-requires : goal.find_in-requires
 find_in-requires c =
-    let b = c in
-    fits_block b.args.slots b.args.words.now b.requires.7 _ c.slot_of_probe-slot.ensures.1
+    fits_block c.args.slots c.args.words.now c.requires.7 _ c.slot_of_probe-slot.ensures.1
 
 pub evaluate_entry-requires : goal.evaluate_entry-requires
 evaluate_entry-requires c =
-    let b = c in
-    (read_slot_inside b.args.words.now b.args.packed.now _ 0 [] 0 b.args.image b.args.config b.args.field b.args.stars.now _ c.find_in.ensures (blank Empty) _ c.in-At.is, b.requires.6)
+    (read_slot_inside c.args.words.now c.args.packed.now _ 0 [] 0 c.args.image c.args.config c.args.field c.args.stars.now _ c.find_in.ensures (blank Empty) _ c.in-At.is, c.requires.6)
 
 pub returns-in-Empty : goal.returns-in-Empty
 returns-in-Empty c =

@@ -7,11 +7,9 @@ use Rattle.combinations.proofs.Combination.next.Goals as goal
 
 pub returns-then-self : goal.returns-then-self
 returns-then-self c =
-    let s = c in
-    sym (next_within s.args.kept s.args.self s.requires.1 c.if-self.true)
+    sym (next_within c.args.kept c.args.self c.requires.1 c.if-self.true)
 
 pub returns : goal.returns
 unfolding sum
 returns c =
-    let s = c in
-    c.from_b.ensures ∙ (rw add-one (sym (next_past s.args.kept s.args.self s.requires.1 c.if-self.false)))
+    c.from_b.ensures ∙ (rw add-one (sym (next_past c.args.kept c.args.self c.requires.1 c.if-self.false)))

@@ -11,10 +11,9 @@ returns-then-mark_at-mark c =
 
 pub returns-then-indices_below_at : goal.returns-then-indices_below_at
 returns-then-indices_below_at c =
-    let b = c in
-    let a = b.args in
+    let a = c.args in
     let e = bytes_at a.packed.now a.place in
-    mark_other a.stars.now a.mark e _ c.mark_at.ensures c.if-mark_at-mark.false _ (below_valid a.stars.now a.valid b.requires.1 e (whole_at a.packed.now a.place b.requires.0) (sym c.indices_below_at.ensures ∙ c.if-indices_below_at.true))
+    mark_other a.stars.now a.mark e _ c.mark_at.ensures c.if-mark_at-mark.false _ (below_valid a.stars.now a.valid c.requires.1 e (whole_at a.packed.now a.place c.requires.0) (sym c.indices_below_at.ensures ∙ c.if-indices_below_at.true))
 
 pub returns : goal.returns
 returns c =

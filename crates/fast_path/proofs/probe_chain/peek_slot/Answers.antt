@@ -3,9 +3,8 @@ use Rattle.fast_path.proofs.probe_chain.peek_slot.Goals as goal
 
 pub is_valid_mismatch-requires : goal.is_valid_mismatch-requires
 is_valid_mismatch-requires c =
-    let b = c in
-    let a = b.args in
-    (peek_inside a.words.now a.packed.now a.stars.now a.mark a.slot _ c.find_near.ensures _ c.in-At.is, b.requires.1)
+    let a = c.args in
+    (peek_inside a.words.now a.packed.now a.stars.now a.mark a.slot _ c.find_near.ensures _ c.in-At.is, c.requires.1)
 
 pub returns-then-is_valid_mismatch : goal.returns-then-is_valid_mismatch
 returns-then-is_valid_mismatch c =

@@ -8,10 +8,10 @@ pub loop-a-init : goal.loop-a-init
 loop-a-init c = (c.requires.1, refl, λ h. absurd (omega arith))
 
 pub probe_slot-slot-requires : goal.probe_slot-slot-requires
-probe_slot-slot-requires c = let b = c in (b.requires.0, fits_few b.args.slots b.args.words.now b.requires.2, c.loop-a.invariant.0)
+probe_slot-slot-requires c = (c.requires.0, fits_few c.args.slots c.args.words.now c.requires.2, c.loop-a.invariant.0)
 
 pub peek_slot-seen-requires : goal.peek_slot-seen-requires
-peek_slot-seen-requires c = let b = c in (fits_block b.args.slots b.args.words.now b.requires.2 _ c.probe_slot-slot.ensures.1, b.requires.3, λ h. c.loop-a.invariant.2 (omega (arith, h, c.probe_slot-slot.ensures.1)))
+peek_slot-seen-requires c = (fits_block c.args.slots c.args.words.now c.requires.2 _ c.probe_slot-slot.ensures.1, c.requires.3, λ h. c.loop-a.invariant.2 (omega (arith, h, c.probe_slot-slot.ensures.1)))
 
 pub chain_at-requires : goal.chain_at-requires
 chain_at-requires c = tt
@@ -32,10 +32,10 @@ pub overflow_sub-a-in-Passed : goal.overflow_sub-a-in-Passed
 overflow_sub-a-in-Passed c = omega (arith, c.loop-a-test.true)
 
 pub overflow_add-c : goal.overflow_add-c
-overflow_add-c c = let b = c in let f = fits_few b.args.slots b.args.words.now b.requires.2 in record { fits = omega (arith, c.loop-a.invariant.0, f) }
+overflow_add-c c = let f = fits_few c.args.slots c.args.words.now c.requires.2 in record { fits = omega (arith, c.loop-a.invariant.0, f) }
 
 pub overflow_cast-c : goal.overflow_cast-c
-overflow_cast-c c = let b = c in let f = fits_few b.args.slots b.args.words.now b.requires.2 in record { fits = omega (arith, c.loop-a.invariant.0, f) }
+overflow_cast-c c = let f = fits_few c.args.slots c.args.words.now c.requires.2 in record { fits = omega (arith, c.loop-a.invariant.0, f) }
 
 pub chain_at-requires-then-slots-c : goal.chain_at-requires-then-slots-c
 chain_at-requires-then-slots-c c = tt
@@ -44,7 +44,7 @@ pub returns-then-slots-c : goal.returns-then-slots-c
 returns-then-slots-c c = let a = c.args in c.chain_at-then-slots-c.ensures ∙ along_last a.words.now a.packed.now a.stars.now a.slots a.home a.mark _ _ c.loop-a-test.true _ c.probe_slot-slot.ensures.0 _ c.peek_slot-seen.ensures.0 c.in-Passed.is c.if-slots-c.true ∙ c.loop-a.invariant.1
 
 pub overflow_add-c-in-Passed : goal.overflow_add-c-in-Passed
-overflow_add-c-in-Passed c = let b = c in let f = fits_few b.args.slots b.args.words.now b.requires.2 in record { fits = omega (arith, c.loop-a.invariant.0, f) }
+overflow_add-c-in-Passed c = let f = fits_few c.args.slots c.args.words.now c.requires.2 in record { fits = omega (arith, c.loop-a.invariant.0, f) }
 
 pub loop-a-smaller : goal.loop-a-smaller
 loop-a-smaller c = omega (arith, c.loop-a-test.true)

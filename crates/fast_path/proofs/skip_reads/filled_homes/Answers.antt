@@ -8,52 +8,52 @@ use Rattle.fast_path.proofs.FilledHomes.{byte_most, ahead_none, ahead_looked}
 use Rattle.fast_path.proofs.skip_reads.filled_homes.Goals as goal
 
 pub loop-i-init : goal.loop-i-init
-loop-i-init c = let b = c in (ahead_none b.args.words.now b.args.slots b.args.hashes.now b.args.from b.args.keys.now b.args.homes.now b.requires.5 b.requires.6, omega arith)
+loop-i-init c = (ahead_none c.args.words.now c.args.slots c.args.hashes.now c.args.from c.args.keys.now c.args.homes.now c.requires.5 c.requires.6, omega arith)
 
 pub overflow_add-k : goal.overflow_add-k
-overflow_add-k c = let b = c in record { fits = omega (arith, b.requires.0, b.requires.1, c.loop-i.invariant.1, c.loop-i-test.true) }
+overflow_add-k c = record { fits = omega (arith, c.requires.0, c.requires.1, c.loop-i.invariant.1, c.loop-i-test.true) }
 
 pub overflow_cast-hash : goal.overflow_cast-hash
-overflow_cast-hash c = let b = c in record { fits = omega (arith, b.requires.0, b.requires.1, c.loop-i.invariant.1, c.loop-i-test.true) }
+overflow_cast-hash c = record { fits = omega (arith, c.requires.0, c.requires.1, c.loop-i.invariant.1, c.loop-i-test.true) }
 
 pub offset_bounds-hashes-k : goal.offset_bounds-hashes-k
-offset_bounds-hashes-k c = let b = c in record { fits = omega (arith, b.requires.0, b.requires.1, c.loop-i.invariant.1, c.loop-i-test.true) }
+offset_bounds-hashes-k c = record { fits = omega (arith, c.requires.0, c.requires.1, c.loop-i.invariant.1, c.loop-i-test.true) }
 
 pub bounds-hashes-k : goal.bounds-hashes-k
-bounds-hashes-k c = let b = c in omega (arith, b.requires.0, b.requires.1, c.loop-i-test.true)
+bounds-hashes-k c = omega (arith, c.requires.0, c.requires.1, c.loop-i-test.true)
 
 pub hash_to_index-home-requires : goal.hash_to_index-home-requires
 hash_to_index-home-requires c = c.requires.2
 
 pub overflow_cast-keys : goal.overflow_cast-keys
-overflow_cast-keys c = let b = c in let l = c.loop-i in record { fits = omega (arith, b.requires.1, l.invariant.0.few, l.invariant.1) }
+overflow_cast-keys c = let l = c.loop-i in record { fits = omega (arith, c.requires.1, l.invariant.0.few, l.invariant.1) }
 
 pub offset_bounds-keys-m : goal.offset_bounds-keys-m
-offset_bounds-keys-m c = let b = c in let l = c.loop-i in record { fits = omega (arith, b.requires.1, l.invariant.0.few, l.invariant.1) }
+offset_bounds-keys-m c = let l = c.loop-i in record { fits = omega (arith, c.requires.1, l.invariant.0.few, l.invariant.1) }
 
 pub bounds-keys-m : goal.bounds-keys-m
-bounds-keys-m c = let b = c in let l = c.loop-i in omega (arith, b.requires.1, l.invariant.0.few, l.invariant.1, c.loop-i-test.true)
+bounds-keys-m c = let l = c.loop-i in omega (arith, c.requires.1, l.invariant.0.few, l.invariant.1, c.loop-i-test.true)
 
 pub overflow_cast-homes : goal.overflow_cast-homes
-overflow_cast-homes c = let b = c in let l = c.loop-i in record { fits = omega (arith, b.requires.1, l.invariant.0.few, l.invariant.1) }
+overflow_cast-homes c = let l = c.loop-i in record { fits = omega (arith, c.requires.1, l.invariant.0.few, l.invariant.1) }
 
 pub offset_bounds-homes-m : goal.offset_bounds-homes-m
-offset_bounds-homes-m c = let b = c in let l = c.loop-i in record { fits = omega (arith, b.requires.1, l.invariant.0.few, l.invariant.1) }
+offset_bounds-homes-m c = let l = c.loop-i in record { fits = omega (arith, c.requires.1, l.invariant.0.few, l.invariant.1) }
 
 pub bounds-homes-m : goal.bounds-homes-m
-bounds-homes-m c = let b = c in let l = c.loop-i in omega (arith, b.requires.1, l.invariant.0.few, l.invariant.1, c.loop-i-test.true)
+bounds-homes-m c = let l = c.loop-i in omega (arith, c.requires.1, l.invariant.0.few, l.invariant.1, c.loop-i-test.true)
 
 pub is_filled-requires : goal.is_filled-requires
-is_filled-requires c = let b = c in fits_block b.args.slots b.args.words.now b.requires.3 _ (subst (λ (h : ℕ). h < b.args.slots) (sym c.hash_to_index-home.ensures) (home_below _ b.args.slots b.requires.2))
+is_filled-requires c = fits_block c.args.slots c.args.words.now c.requires.3 _ (subst (λ (h : ℕ). h < c.args.slots) (sym c.hash_to_index-home.ensures) (home_below _ c.args.slots c.requires.2))
 
 pub overflow_cast-m : goal.overflow_cast-m
 overflow_cast-m c = tt
 
 pub overflow_add-m : goal.overflow_add-m
-overflow_add-m c = let b = c in let l = c.loop-i in record { fits = omega (arith, b.requires.1, l.invariant.0.few, l.invariant.1, byte_most c.is_filled.result) }
+overflow_add-m c = let l = c.loop-i in record { fits = omega (arith, c.requires.1, l.invariant.0.few, l.invariant.1, byte_most c.is_filled.result) }
 
 pub overflow_add-i : goal.overflow_add-i
-overflow_add-i c = let b = c in let l = c.loop-i in record { fits = omega (arith, b.requires.1, l.invariant.1) }
+overflow_add-i c = let l = c.loop-i in record { fits = omega (arith, c.requires.1, l.invariant.1) }
 
 pub loop-i-smaller : goal.loop-i-smaller
 loop-i-smaller c = omega (arith, c.loop-i-test.true)

@@ -4,10 +4,10 @@ use borrow.Author.Tests.{not-true, not-false}
 use Rattle.fast_path.proofs.skip_reads.skip_reads.Goals as goal
 
 pub loop-s-init : goal.loop-s-init
-loop-s-init c = let b = c in (b.requires.0, b.requires.2, refl)
+loop-s-init c = (c.requires.0, c.requires.2, refl)
 
 pub skip_step-s-requires : goal.skip_step-s-requires
-skip_step-s-requires c = let b = c in let l = c.loop-s in (l.invariant.0, b.requires.1, l.invariant.1, b.requires.3, b.requires.4, b.requires.5)
+skip_step-s-requires c = let l = c.loop-s in (l.invariant.0, c.requires.1, l.invariant.1, c.requires.3, c.requires.4, c.requires.5)
 
 pub returns-then-not-s : goal.returns-then-not-s
 returns-then-not-s c = c.skip_step-s.ensures.off (not-true _ c.if-not-s.true) ∙ c.loop-s.invariant.2

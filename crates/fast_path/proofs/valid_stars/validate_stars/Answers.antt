@@ -13,14 +13,12 @@ returns-then-to-from c = let a = c.args in stars_later a.stars.now a.known a.mad
 
 pub returns-then-every_star_valid : goal.returns-then-every_star_valid
 returns-then-every_star_valid c =
-    let r = c in
-    let a = r.args in
-    let s : every_star (stars_from a.stars.now a.known.valid r.allowed_stars-to.result) ≡ true = sym c.every_star_valid.ensures ∙ c.if-every_star_valid.true in
-    sym (rw s) ∙ stars_asked a.stars.now a.known a.made r.if-known.false _ r.allowed_stars-to.ensures.0 c.if-to-from.false
+    let a = c.args in
+    let s : every_star (stars_from a.stars.now a.known.valid c.allowed_stars-to.result) ≡ true = sym c.every_star_valid.ensures ∙ c.if-every_star_valid.true in
+    sym (rw s) ∙ stars_asked a.stars.now a.known a.made c.if-known.false _ c.allowed_stars-to.ensures.0 c.if-to-from.false
 
 pub returns : goal.returns
 returns c =
-    let r = c in
-    let a = r.args in
-    let s : every_star (stars_from a.stars.now a.known.valid r.allowed_stars-to.result) ≡ false = sym c.every_star_valid.ensures ∙ c.if-every_star_valid.false in
-    sym (rw s) ∙ stars_asked a.stars.now a.known a.made r.if-known.false _ r.allowed_stars-to.ensures.0 c.if-to-from.false
+    let a = c.args in
+    let s : every_star (stars_from a.stars.now a.known.valid c.allowed_stars-to.result) ≡ false = sym c.every_star_valid.ensures ∙ c.if-every_star_valid.false in
+    sym (rw s) ∙ stars_asked a.stars.now a.known a.made c.if-known.false _ c.allowed_stars-to.ensures.0 c.if-to-from.false

@@ -9,12 +9,12 @@ float_to_int-n c = near_whole c.args.x c.requires.0 c.requires.1
 
 pub overflow_sub-result : goal.overflow_sub-result
 unfolding of_bits
-overflow_sub-result c = let b = c in let e = one_more b.args.x b.requires.0 b.requires.1 c.if-x-near.true in omega arith
+overflow_sub-result c = let e = one_more c.args.x c.requires.0 c.requires.1 c.if-x-near.true in omega arith
 
 pub returns-then-x-near : goal.returns-then-x-near
 unfolding of_bits
-returns-then-x-near c = let b = c in let e = one_more b.args.x b.requires.0 b.requires.1 c.if-x-near.true in omega arith
+returns-then-x-near c = let e = one_more c.args.x c.requires.0 c.requires.1 c.if-x-near.true in omega arith
 
 pub returns : goal.returns
 unfolding of_bits
-returns c = let b = c in no_more b.args.x b.requires.0 b.requires.1 c.if-x-near.false
+returns c = no_more c.args.x c.requires.0 c.requires.1 c.if-x-near.false

@@ -8,7 +8,7 @@ pub returns-then-not-is_filled : goal.returns-then-not-is_filled
 returns-then-not-is_filled c = let a = c.args in in_empty a.words.now a.packed.now a.slot (sym c.is_filled.ensures ∙ not-true _ c.if-not-is_filled.true-raw)
 
 pub rank_from-requires : goal.rank_from-requires
-rank_from-requires c = let b = c in (b.requires.0, λ h. let k = b.requires.1 h in (k.0, omega (arith, k.1)))
+rank_from-requires c = (c.requires.0, λ h. let k = c.requires.1 h in (k.0, omega (arith, k.1)))
 
 pub returns : goal.returns
 returns c = let a = c.args in c.placed.ensures ∙ sym (in_ranked a.words.now a.packed.now a.slot (sym c.is_filled.ensures ∙ not-false _ c.if-not-is_filled.false-raw) _ (sym c.rank_from.ensures))

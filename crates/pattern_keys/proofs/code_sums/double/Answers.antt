@@ -11,23 +11,20 @@ loop-i-init c = (omega arith, half_none c.args.sums.now c.args.n c.args.v c.requ
 pub overflow_add-sums : goal.overflow_add-sums
 overflow_add-sums c =
     let l = c.loop-i in
-    let s = c in
-    let h : l.i < s.args.n = omega arith in
-    let a = s.requires.each l.i h in
+    let h : l.i < c.args.n = omega arith in
+    let a = c.requires.each l.i h in
     let b = l.invariant.1.same l.i h in
-    let f : get_or l.sums l.i 0 + s.args.v < 18446744073709551616 = omega arith in
+    let f : get_or l.sums l.i 0 + c.args.v < 18446744073709551616 = omega arith in
     record { fits = f }
 
 pub loop-i-preserved : goal.loop-i-preserved
 loop-i-preserved c =
     let l = c.loop-i in
-    let s = c in
-    (omega arith, half_more s.args.sums.now l.sums s.args.n s.args.v l.i (omega arith) s.requires.half l.invariant.1)
+    (omega arith, half_more c.args.sums.now l.sums c.args.n c.args.v l.i (omega arith) c.requires.half l.invariant.1)
 
 pub returns : goal.returns
 returns c =
     let l = c.loop-i in
-    let s = c in
-    let e : l.i ≡ s.args.n = omega arith in
-    let t = subst (λ (y : ℕ). Half s.args.sums.now l.sums s.args.n s.args.v y) e l.invariant.1 in
+    let e : l.i ≡ c.args.n = omega arith in
+    let t = subst (λ (y : ℕ). Half c.args.sums.now l.sums c.args.n c.args.v y) e l.invariant.1 in
     record { same = t.same; more = t.more; long = t.long }

@@ -13,15 +13,13 @@ loop-left-init c = (record { whole = refl; room = omega arith; long = c.requires
 pub loop-left-preserved : goal.loop-left-preserved
 loop-left-preserved c =
     let l = c.loop-left in
-    let s = c in
-    let v = get_or s.args.sums.now (l.w % 32) 0 in
+    let v = get_or c.args.sums.now (l.w % 32) 0 in
     elim c.if-valid-code-eq1.branch [
-      | then-valid-code-eq1 w ↦ (subst (λ (n : ℕ). Adding s.args.sums.now s.args.valid s.args.out.now (set l.out l.n v) s.args.m n s.args.word s.args.count (l.w / 32) (l.left - 1)) (sym w.n-is) (adding_yes s.args.sums.now s.args.valid s.args.out.now l.out s.args.m l.n s.args.word s.args.count l.w l.left l.invariant.0 (omega arith) s.requires.0 (eq-eqb _ _ w.if-valid-code-eq1.true)), omega arith)
-      | else-valid-code-eq1 w ↦ (subst (λ (n : ℕ). Adding s.args.sums.now s.args.valid s.args.out.now (set l.out l.n v) s.args.m n s.args.word s.args.count (l.w / 32) (l.left - 1)) (sym w.n-is) (adding_no s.args.sums.now s.args.valid s.args.out.now l.out s.args.m l.n s.args.word s.args.count l.w l.left l.invariant.0 (omega arith) s.requires.0 (ne_eqb _ _ w.if-valid-code-eq1.false)), omega arith)
+      | then-valid-code-eq1 w ↦ (subst (λ (n : ℕ). Adding c.args.sums.now c.args.valid c.args.out.now (set l.out l.n v) c.args.m n c.args.word c.args.count (l.w / 32) (l.left - 1)) (sym w.n-is) (adding_yes c.args.sums.now c.args.valid c.args.out.now l.out c.args.m l.n c.args.word c.args.count l.w l.left l.invariant.0 (omega arith) c.requires.0 (eq-eqb _ _ w.if-valid-code-eq1.true)), omega arith)
+      | else-valid-code-eq1 w ↦ (subst (λ (n : ℕ). Adding c.args.sums.now c.args.valid c.args.out.now (set l.out l.n v) c.args.m n c.args.word c.args.count (l.w / 32) (l.left - 1)) (sym w.n-is) (adding_no c.args.sums.now c.args.valid c.args.out.now l.out c.args.m l.n c.args.word c.args.count l.w l.left l.invariant.0 (omega arith) c.requires.0 (ne_eqb _ _ w.if-valid-code-eq1.false)), omega arith)
     ]
 
 pub returns : goal.returns
 returns c =
     let l = c.loop-left in
-    let s = c in
-    adding_last s.args.sums.now s.args.valid s.args.out.now l.out s.args.m l.n s.args.word s.args.count l.w l.left l.invariant.0 (omega arith) s.requires.0 s.requires.1
+    adding_last c.args.sums.now c.args.valid c.args.out.now l.out c.args.m l.n c.args.word c.args.count l.w l.left l.invariant.0 (omega arith) c.requires.0 c.requires.1

@@ -8,10 +8,9 @@ use Rattle.pattern_keys.proofs.codes.listed.Goals as goal
 pub returns : goal.returns
 unfolding codes_around
 returns c =
-    let s = c in
-    let a = s.args.sums.now in
-    let v = s.args.valid in
-    let x = s.args.c in
+    let a = c.args.sums.now in
+    let v = c.args.valid in
+    let x = c.args.c in
     let w = c.around-w in
     let l6 = unpack (31 - x) 1 in
     let l5 = unpack (get_or w.result 3 0) 5 ++ l6 in

@@ -7,25 +7,22 @@ use Rattle.pattern_keys.proofs.enumerate.enumerate_key_range.Goals as goal
 
 pub first-n-requires : goal.first-n-requires
 first-n-requires c =
-    let b = c in
-    let n = in_range_length b.args.lo b.args.hi b.requires.0 in
-    let w = loops_is b.args.lo b.args.hi in
-    (listed_small b.args.lo b.args.hi b.args.c b.args.bins b.requires.1 b.requires.2, b.requires.2, zeros b.args.hi b.args.bins b.requires.2, omega (arith, ap length w), c.room-hashes.ensures, c.room-dist.ensures)
+    let n = in_range_length c.args.lo c.args.hi c.requires.0 in
+    let w = loops_is c.args.lo c.args.hi in
+    (listed_small c.args.lo c.args.hi c.args.c c.args.bins c.requires.1 c.requires.2, c.requires.2, zeros c.args.hi c.args.bins c.requires.2, omega (arith, ap length w), c.room-hashes.ensures, c.room-dist.ensures)
 
 pub sort-requires : goal.sort-requires
 sort-requires c =
-    let b = c in
     let f = c.first-n in
-    let lo = b.args.lo in
-    let hi = b.args.hi in
+    let lo = c.args.lo in
+    let hi = c.args.hi in
     let y = f.new in
-    (loops_few b.args.c lo hi b.args.bins b.requires.0 b.requires.1 _ _ y.hashes y.dist f.result f.ensures, loops_near b.args.c lo hi b.args.bins b.requires.0 b.requires.1 _ _ y.hashes y.dist f.result f.ensures, f.ensures.wide, f.ensures.long, b.requires.3)
+    (loops_few c.args.c lo hi c.args.bins c.requires.0 c.requires.1 _ _ y.hashes y.dist f.result f.ensures, loops_near c.args.c lo hi c.args.bins c.requires.0 c.requires.1 _ _ y.hashes y.dist f.result f.ensures, f.ensures.wide, f.ensures.long, c.requires.3)
 
 pub returns : goal.returns
 returns c =
-    let b = c in
     let f = c.first-n in
-    let lo = b.args.lo in
-    let hi = b.args.hi in
+    let lo = c.args.lo in
+    let hi = c.args.hi in
     let y = f.new in
-    loops_hashed b.args.c lo hi b.args.bins b.requires.0 b.requires.1 _ _ y.hashes y.dist f.result f.ensures c.sort.new.out c.sort.result c.sort.ensures
+    loops_hashed c.args.c lo hi c.args.bins c.requires.0 c.requires.1 _ _ y.hashes y.dist f.result f.ensures c.sort.new.out c.sort.result c.sort.ensures

@@ -6,26 +6,25 @@ use Rattle.pattern_keys.proofs.CutByComparing.{exact, byte_most, part_small, nea
 use Rattle.pattern_keys.proofs.key_bounds.low.Goals as goal
 
 pub int_to_float-x : goal.int_to_float-x
-int_to_float-x c = let s = c in exact s.args.bins (omega (arith, s.requires.1.few_bins))
+int_to_float-x c = exact c.args.bins (omega (arith, c.requires.1.few_bins))
 
 pub int_to_float-k : goal.int_to_float-k
-int_to_float-k c = let s = c in exact s.args.k (omega (arith, part_small s.args.r s.args.e s.args.bins s.args.k s.requires.0 s.requires.1 s.requires.2))
+int_to_float-k c = exact c.args.k (omega (arith, part_small c.args.r c.args.e c.args.bins c.args.k c.requires.0 c.requires.1 c.requires.2))
 
 pub overflow_add-k : goal.overflow_add-k
 overflow_add-k c =
-    let s = c in
-    let h = part_small s.args.r s.args.e s.args.bins s.args.k s.requires.0 s.requires.1 s.requires.2 in
-    let t = byte_most (le (bins32 s.args.k) (mul binary32 (sub binary32 s.args.r s.args.e) (bins32 s.args.bins))) in
+    let h = part_small c.args.r c.args.e c.args.bins c.args.k c.requires.0 c.requires.1 c.requires.2 in
+    let t = byte_most (le (bins32 c.args.k) (mul binary32 (sub binary32 c.args.r c.args.e) (bins32 c.args.bins))) in
     record { fits = omega arith }
 
 pub int_to_float-n : goal.int_to_float-n
-int_to_float-n c = let s = c in exact c.before-n.result (near_small s.args.r s.args.e s.args.bins s.args.k c.before-n.result s.requires.0 s.requires.1 s.requires.2 c.before-n.ensures)
+int_to_float-n c = exact c.before-n.result (near_small c.args.r c.args.e c.args.bins c.args.k c.before-n.result c.requires.0 c.requires.1 c.requires.2 c.before-n.ensures)
 
 pub returns-then-n-x : goal.returns-then-n-x
-returns-then-n-x c = let s = c in low_near s.args.r s.args.e s.args.bins s.args.k c.before-n.result s.requires.0 s.requires.1 s.requires.2 c.before-n.ensures c.if-n-x.true
+returns-then-n-x c = low_near c.args.r c.args.e c.args.bins c.args.k c.before-n.result c.requires.0 c.requires.1 c.requires.2 c.before-n.ensures c.if-n-x.true
 
 pub returns-then-n-eq0 : goal.returns-then-n-eq0
-returns-then-n-eq0 c = let s = c in low_none s.args.r s.args.e s.args.bins s.args.k c.before-n.result s.requires.0 s.requires.1 s.requires.2 c.before-n.ensures c.if-n-eq0.true
+returns-then-n-eq0 c = low_none c.args.r c.args.e c.args.bins c.args.k c.before-n.result c.requires.0 c.requires.1 c.requires.2 c.before-n.ensures c.if-n-eq0.true
 
 pub returns : goal.returns
 unfolding of_bits

@@ -7,12 +7,11 @@ use Rattle.pattern_keys.proofs.key_hashes.key_hashes.Goals as goal
 
 pub two_values-requires : goal.two_values-requires
 two_values-requires c =
-    let s = c in
     let key = c.compute_pattern_key-c.ensures in
     let lo = c.lower-lo.ensures in
     let hi = c.upper-hi.ensures in
     let w = two_of _ _ (sym c.at_most_two.ensures ∙ c.if-at_most_two.true) in
-    (rw (lo, hi, key) (image_pairs s.args.r s.args.e s.args.bins s.requires.0 s.requires.1 (rw (lo, hi) at w)), s.requires.2)
+    (rw (lo, hi, key) (image_pairs c.args.r c.args.e c.args.bins c.requires.0 c.requires.1 (rw (lo, hi) at w)), c.requires.2)
 
 pub returns-then-at_most_two : goal.returns-then-at_most_two
 unfolding keys_for
@@ -24,14 +23,13 @@ returns-then-at_most_two c =
 
 pub enumerate_key_range-requires : goal.enumerate_key_range-requires
 enumerate_key_range-requires c =
-    let s = c in
     let key = c.compute_pattern_key-c.ensures in
     let lo = c.lower-lo.ensures in
     let hi = c.upper-hi.ensures in
-    let n = ranges_narrow s.args.r s.args.e s.args.bins s.requires.0 s.requires.1 in
-    let i = image_in_ranges s.args.r s.args.e s.args.bins s.requires.0 s.requires.1 in
-    let u = upper_parts s.args.r s.args.e s.args.bins s.requires.0 s.requires.1 in
-    (rw (lo, hi) n, rw (lo, hi, key) i, rw hi u, s.requires.2)
+    let n = ranges_narrow c.args.r c.args.e c.args.bins c.requires.0 c.requires.1 in
+    let i = image_in_ranges c.args.r c.args.e c.args.bins c.requires.0 c.requires.1 in
+    let u = upper_parts c.args.r c.args.e c.args.bins c.requires.0 c.requires.1 in
+    (rw (lo, hi) n, rw (lo, hi, key) i, rw hi u, c.requires.2)
 
 pub returns : goal.returns
 unfolding keys_for

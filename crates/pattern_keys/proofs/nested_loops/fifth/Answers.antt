@@ -17,56 +17,47 @@ loop-i-init c = (zero-le, first_place c.args.m, enumerated_none c.args.c c.args.
 pub overflow_add-x : goal.overflow_add-x
 overflow_add-x c =
     let l = c.loop-i in
-    let b = c in
-    value_fits c.larger-a.result l.i c.values-n.result (get_or b.args.hi 4 0) b.args.bins c.loop-i-test.true c.values-n.ensures b.requires.1.fifth b.requires.1.few
+    value_fits c.larger-a.result l.i c.values-n.result (get_or c.args.hi 4 0) c.args.bins c.loop-i-test.true c.values-n.ensures c.requires.1.fifth c.requires.1.few
 
 pub compute_pattern_key_hash-requires : goal.compute_pattern_key_hash-requires
 compute_pattern_key_hash-requires c =
     let l = c.loop-i in
-    let b = c in
-    parts_set b.args.k b.args.bins 4 (c.larger-a.result + l.i) (value_in c.larger-a.result l.i c.values-n.result (get_or b.args.hi 4 0) b.args.bins c.loop-i-test.true c.values-n.ensures b.requires.1.fifth) b.requires.2
+    parts_set c.args.k c.args.bins 4 (c.larger-a.result + l.i) (value_in c.larger-a.result l.i c.values-n.result (get_or c.args.hi 4 0) c.args.bins c.loop-i-test.true c.values-n.ensures c.requires.1.fifth) c.requires.2
 
 pub offset_bounds-hashes-at : goal.offset_bounds-hashes-at
 offset_bounds-hashes-at c =
     let l = c.loop-i in
-    let b = c in
-    place_fits l.at (last_room b.args.lo b.args.hi b.args.k c.larger-a.result c.values-n.result l.i b.args.m l.at c.larger-a.ensures c.values-n.ensures b.requires.3 l.invariant.1 c.loop-i-test.true)
+    place_fits l.at (last_room c.args.lo c.args.hi c.args.k c.larger-a.result c.values-n.result l.i c.args.m l.at c.larger-a.ensures c.values-n.ensures c.requires.3 l.invariant.1 c.loop-i-test.true)
 
 pub bounds-hashes-at : goal.bounds-hashes-at
 bounds-hashes-at c =
     let l = c.loop-i in
-    let b = c in
-    last_room b.args.lo b.args.hi b.args.k c.larger-a.result c.values-n.result l.i b.args.m l.at c.larger-a.ensures c.values-n.ensures b.requires.3 l.invariant.1 c.loop-i-test.true
+    last_room c.args.lo c.args.hi c.args.k c.larger-a.result c.values-n.result l.i c.args.m l.at c.larger-a.ensures c.values-n.ensures c.requires.3 l.invariant.1 c.loop-i-test.true
 
 pub squared_distance-requires : goal.squared_distance-requires
 squared_distance-requires c =
     let l = c.loop-i in
-    let b = c in
-    (b.requires.0, parts_set b.args.k b.args.bins 4 (c.larger-a.result + l.i) (value_in c.larger-a.result l.i c.values-n.result (get_or b.args.hi 4 0) b.args.bins c.loop-i-test.true c.values-n.ensures b.requires.1.fifth) b.requires.2)
+    (c.requires.0, parts_set c.args.k c.args.bins 4 (c.larger-a.result + l.i) (value_in c.larger-a.result l.i c.values-n.result (get_or c.args.hi 4 0) c.args.bins c.loop-i-test.true c.values-n.ensures c.requires.1.fifth) c.requires.2)
 
 pub offset_bounds-dist-at : goal.offset_bounds-dist-at
 offset_bounds-dist-at c =
     let l = c.loop-i in
-    let b = c in
-    place_fits l.at (last_room b.args.lo b.args.hi b.args.k c.larger-a.result c.values-n.result l.i b.args.m l.at c.larger-a.ensures c.values-n.ensures b.requires.3 l.invariant.1 c.loop-i-test.true)
+    place_fits l.at (last_room c.args.lo c.args.hi c.args.k c.larger-a.result c.values-n.result l.i c.args.m l.at c.larger-a.ensures c.values-n.ensures c.requires.3 l.invariant.1 c.loop-i-test.true)
 
 pub bounds-dist-at : goal.bounds-dist-at
 bounds-dist-at c =
     let l = c.loop-i in
-    let b = c in
-    last_room b.args.lo b.args.hi b.args.k c.larger-a.result c.values-n.result l.i b.args.m l.at c.larger-a.ensures c.values-n.ensures b.requires.3 l.invariant.1 c.loop-i-test.true
+    last_room c.args.lo c.args.hi c.args.k c.larger-a.result c.values-n.result l.i c.args.m l.at c.larger-a.ensures c.values-n.ensures c.requires.3 l.invariant.1 c.loop-i-test.true
 
 pub overflow_add-at : goal.overflow_add-at
 overflow_add-at c =
     let l = c.loop-i in
-    let b = c in
-    next_place_fits l.at (last_room b.args.lo b.args.hi b.args.k c.larger-a.result c.values-n.result l.i b.args.m l.at c.larger-a.ensures c.values-n.ensures b.requires.3 l.invariant.1 c.loop-i-test.true)
+    next_place_fits l.at (last_room c.args.lo c.args.hi c.args.k c.larger-a.result c.values-n.result l.i c.args.m l.at c.larger-a.ensures c.values-n.ensures c.requires.3 l.invariant.1 c.loop-i-test.true)
 
 pub overflow_add-i : goal.overflow_add-i
 overflow_add-i c =
     let l = c.loop-i in
-    let b = c in
-    next_fits c.larger-a.result l.i c.values-n.result (get_or b.args.hi 4 0) b.args.bins c.loop-i-test.true c.values-n.ensures b.requires.1.fifth b.requires.1.few
+    next_fits c.larger-a.result l.i c.values-n.result (get_or c.args.hi 4 0) c.args.bins c.loop-i-test.true c.values-n.ensures c.requires.1.fifth c.requires.1.few
 
 pub loop-i-smaller : goal.loop-i-smaller
 loop-i-smaller c = fewer c.loop-i.i c.values-n.result c.loop-i-test.true
@@ -74,14 +65,12 @@ loop-i-smaller c = fewer c.loop-i.i c.values-n.result c.loop-i-test.true
 pub loop-i-preserved : goal.loop-i-preserved
 loop-i-preserved c =
     let l = c.loop-i in
-    let b = c in
-    let t = last_iteration b.args.c b.args.bins 4 c.larger-a.result l.i b.args.k b.args.hashes.now b.args.dist.now l.hashes l.dist b.args.m l.at c.compute_pattern_key_hash.result c.squared_distance.result (last_room b.args.lo b.args.hi b.args.k c.larger-a.result c.values-n.result l.i b.args.m l.at c.larger-a.ensures c.values-n.ensures b.requires.3 l.invariant.1 c.loop-i-test.true) c.compute_pattern_key_hash.ensures c.squared_distance.ensures l.invariant.2 in
-    (one_more l.i c.values-n.result c.loop-i-test.true, next_place l.at b.args.m l.i l.invariant.1, t)
+    let t = last_iteration c.args.c c.args.bins 4 c.larger-a.result l.i c.args.k c.args.hashes.now c.args.dist.now l.hashes l.dist c.args.m l.at c.compute_pattern_key_hash.result c.squared_distance.result (last_room c.args.lo c.args.hi c.args.k c.larger-a.result c.values-n.result l.i c.args.m l.at c.larger-a.ensures c.values-n.ensures c.requires.3 l.invariant.1 c.loop-i-test.true) c.compute_pattern_key_hash.ensures c.squared_distance.ensures l.invariant.2 in
+    (one_more l.i c.values-n.result c.loop-i-test.true, next_place l.at c.args.m l.i l.invariant.1, t)
 
 pub returns : goal.returns
 returns c =
     let l = c.loop-i in
-    let b = c in
     let e : l.i ≡ c.values-n.result = le_antisymm l.invariant.0 c.loop-i-test.false in
-    let w = fifth_is b.args.lo b.args.hi b.args.k c.larger-a.result c.values-n.result c.larger-a.ensures c.values-n.ensures in
+    let w = fifth_is c.args.lo c.args.hi c.args.k c.larger-a.result c.values-n.result c.larger-a.ensures c.values-n.ensures in
     rw (e, w) at l.invariant.2

@@ -18,26 +18,23 @@ loop-i-init c = (zero-le, enumerated_none c.args.c c.args.bins c.args.hashes.now
 pub overflow_add-x : goal.overflow_add-x
 overflow_add-x c =
     let l = c.loop-i in
-    let b = c in
-    value_fits c.larger-a.result l.i c.values-n.result (get_or b.args.hi 3 0) b.args.bins c.loop-i-test.true c.values-n.ensures b.requires.1.fourth b.requires.1.few
+    value_fits c.larger-a.result l.i c.values-n.result (get_or c.args.hi 3 0) c.args.bins c.loop-i-test.true c.values-n.ensures c.requires.1.fourth c.requires.1.few
 
 pub fifth-r-requires : goal.fifth-r-requires
 fifth-r-requires c =
     let l = c.loop-i in
     let v = c.values-n.ensures in
-    let b = c in
     let a = c.larger-a.result in
     let t = c.loop-i-test.true in
-    let x = value_in a l.i c.values-n.result (get_or b.args.hi 3 0) b.args.bins t v b.requires.1.fourth in
-    let w = fourth_is b.args.lo b.args.hi b.args.k a c.values-n.result c.larger-a.ensures v in
-    let r = loops_room (fifth b.args.lo b.args.hi) 3 a l.i c.values-n.result b.args.k b.args.m l.at t l.invariant.1.count (room_of b.args.m _ _ w b.requires.3) in
-    (b.requires.0, b.requires.1, parts_set b.args.k b.args.bins 3 (a + l.i) x b.requires.2, r, l.invariant.1.wide, l.invariant.1.long)
+    let x = value_in a l.i c.values-n.result (get_or c.args.hi 3 0) c.args.bins t v c.requires.1.fourth in
+    let w = fourth_is c.args.lo c.args.hi c.args.k a c.values-n.result c.larger-a.ensures v in
+    let r = loops_room (fifth c.args.lo c.args.hi) 3 a l.i c.values-n.result c.args.k c.args.m l.at t l.invariant.1.count (room_of c.args.m _ _ w c.requires.3) in
+    (c.requires.0, c.requires.1, parts_set c.args.k c.args.bins 3 (a + l.i) x c.requires.2, r, l.invariant.1.wide, l.invariant.1.long)
 
 pub overflow_add-i : goal.overflow_add-i
 overflow_add-i c =
     let l = c.loop-i in
-    let b = c in
-    next_fits c.larger-a.result l.i c.values-n.result (get_or b.args.hi 3 0) b.args.bins c.loop-i-test.true c.values-n.ensures b.requires.1.fourth b.requires.1.few
+    next_fits c.larger-a.result l.i c.values-n.result (get_or c.args.hi 3 0) c.args.bins c.loop-i-test.true c.values-n.ensures c.requires.1.fourth c.requires.1.few
 
 pub loop-i-smaller : goal.loop-i-smaller
 loop-i-smaller c = fewer c.loop-i.i c.values-n.result c.loop-i-test.true
@@ -45,16 +42,14 @@ loop-i-smaller c = fewer c.loop-i.i c.values-n.result c.loop-i-test.true
 pub loop-i-preserved : goal.loop-i-preserved
 loop-i-preserved c =
     let l = c.loop-i in
-    let b = c in
     let a = c.larger-a.result in
     let t = c.loop-i-test.true in
     let y = c.fifth-r.new in
-    (one_more l.i c.values-n.result t, loops_iteration b.args.c b.args.bins (fifth b.args.lo b.args.hi) 3 a l.i b.args.k b.args.hashes.now b.args.dist.now l.hashes l.dist y.hashes y.dist b.args.m l.at c.fifth-r.result l.invariant.1 c.fifth-r.ensures)
+    (one_more l.i c.values-n.result t, loops_iteration c.args.c c.args.bins (fifth c.args.lo c.args.hi) 3 a l.i c.args.k c.args.hashes.now c.args.dist.now l.hashes l.dist y.hashes y.dist c.args.m l.at c.fifth-r.result l.invariant.1 c.fifth-r.ensures)
 
 pub returns : goal.returns
 returns c =
     let l = c.loop-i in
-    let b = c in
     let e : l.i ≡ c.values-n.result = le_antisymm l.invariant.0 c.loop-i-test.false in
-    let w = fourth_is b.args.lo b.args.hi b.args.k c.larger-a.result c.values-n.result c.larger-a.ensures c.values-n.ensures in
+    let w = fourth_is c.args.lo c.args.hi c.args.k c.larger-a.result c.values-n.result c.larger-a.ensures c.values-n.ensures in
     rw (e, w) at l.invariant.1

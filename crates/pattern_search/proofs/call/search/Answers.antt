@@ -10,9 +10,8 @@ go-requires c = sym c.first_seven.ensures ∙ ap asked_of c.in-Clear.is
 
 pub returns-in-No : goal.returns-in-No
 returns-in-No c =
-    let b = c in
-    let D = data_of (frame_of b.args.centroids.now b.args.order.now b.args.config b.args.passes.now) b.args.slots b.args.words.now b.args.packed.now b.args.stars.now in
-    let h = and_said _ _ (call_seven D b.args.state b.args.allowance _ _ c.first_seven.ensures c.in-No.is _ c.plain.ensures) in
+    let D = data_of (frame_of c.args.centroids.now c.args.order.now c.args.config c.args.passes.now) c.args.slots c.args.words.now c.args.packed.now c.args.stars.now in
+    let h = and_said _ _ (call_seven D c.args.state c.args.allowance _ _ c.first_seven.ensures c.in-No.is _ c.plain.ensures) in
     record { returned = h.0; says = h.1 }
 
 pub returns-in-Clear : goal.returns-in-Clear

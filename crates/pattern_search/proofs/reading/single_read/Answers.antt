@@ -10,39 +10,35 @@ use Rattle.pattern_search.proofs.reading.single_read.Goals as goal
 
 pub read_slot-read-requires : goal.read_slot-read-requires
 read_slot-read-requires c =
-    let b = c in
-    let D = data_of (frame_of b.args.centroids.now b.args.order.now b.args.config b.args.passes.now) b.args.slots b.args.words.now b.args.packed.now b.args.stars.now in
-    read_slot_bounds D b.args.p b.args.current _ _ _ b.requires.0.asked b.requires.2 b.requires.3 (here_of D b.args.cursor b.args.p _ _ _ _ b.requires.0 b.requires.1) b.requires.0.table
+    let D = data_of (frame_of c.args.centroids.now c.args.order.now c.args.config c.args.passes.now) c.args.slots c.args.words.now c.args.packed.now c.args.stars.now in
+    read_slot_bounds D c.args.p c.args.current _ _ _ c.requires.0.asked c.requires.2 c.requires.3 (here_of D c.args.cursor c.args.p _ _ _ _ c.requires.0 c.requires.1) c.requires.0.table
 
 pub returns-then-refuses : goal.returns-then-refuses
 returns-then-refuses c =
-    let b = c in
-    let D = data_of (frame_of b.args.centroids.now b.args.order.now b.args.config b.args.passes.now) b.args.slots b.args.words.now b.args.packed.now b.args.stars.now in
-    let m : Means c.read_slot-read.result.outcome c.read_slot-read.result.candidate (filled (feed D) b.args.p) (valid_at (feed D) b.args.p) (gives (feed D) b.args.p) =
-    means D b.args.p c.read_slot-read.result
-    (read_slot_same D b.args.p b.args.current _ _ _ b.requires.0.asked b.requires.2 b.requires.3 (here_of D b.args.cursor b.args.p _ _ _ _ b.requires.0 b.requires.1) _ (ap (λ z. z.field) c.pass_at-field.ensures) _ c.read_slot-read.ensures) in
+    let D = data_of (frame_of c.args.centroids.now c.args.order.now c.args.config c.args.passes.now) c.args.slots c.args.words.now c.args.packed.now c.args.stars.now in
+    let m : Means c.read_slot-read.result.outcome c.read_slot-read.result.candidate (filled (feed D) c.args.p) (valid_at (feed D) c.args.p) (gives (feed D) c.args.p) =
+    means D c.args.p c.read_slot-read.result
+    (read_slot_same D c.args.p c.args.current _ _ _ c.requires.0.asked c.requires.2 c.requires.3 (here_of D c.args.cursor c.args.p _ _ _ _ c.requires.0 c.requires.1) _ (ap (λ z. z.field) c.pass_at-field.ensures) _ c.read_slot-read.ensures) in
     let n = sym c.refuses.ensures ∙ c.if-refuses.true in
-    iterate_stop D b.args.st b.args.allowance b.args.cursor _ (reply_refused D b.args.st b.args.allowance b.args.cursor b.args.p b.requires.1 b.requires.4 (refused_invalid D b.args.p c.read_slot-read.result m n) _ c.plain-reply.ensures) _ _ _ _ _ _ c.stop.ensures
+    iterate_stop D c.args.st c.args.allowance c.args.cursor _ (reply_refused D c.args.st c.args.allowance c.args.cursor c.args.p c.requires.1 c.requires.4 (refused_invalid D c.args.p c.read_slot-read.result m n) _ c.plain-reply.ensures) _ _ _ _ _ _ c.stop.ensures
 
 pub step-s-requires : goal.step-s-requires
 step-s-requires c =
-    let b = c in
-    let D = data_of (frame_of b.args.centroids.now b.args.order.now b.args.config b.args.passes.now) b.args.slots b.args.words.now b.args.packed.now b.args.stars.now in
-    let m = room_of D b.args.cursor b.args.p _ _ _ _ b.requires.0 b.requires.1 in
-    (b.requires.0.asked, at_read D b.args.p b.args.current _ _ _ b.requires.0.asked b.requires.2 b.requires.3 (here_of D b.args.cursor b.args.p _ _ _ _ b.requires.0 b.requires.1) b.requires.0.table, m.0, m.1)
+    let D = data_of (frame_of c.args.centroids.now c.args.order.now c.args.config c.args.passes.now) c.args.slots c.args.words.now c.args.packed.now c.args.stars.now in
+    let m = room_of D c.args.cursor c.args.p _ _ _ _ c.requires.0 c.requires.1 in
+    (c.requires.0.asked, at_read D c.args.p c.args.current _ _ _ c.requires.0.asked c.requires.2 c.requires.3 (here_of D c.args.cursor c.args.p _ _ _ _ c.requires.0 c.requires.1) c.requires.0.table, m.0, m.1)
 
 pub overflow_sub-allowance : goal.overflow_sub-allowance
-overflow_sub-allowance c = let b = c in omega (arith, b.requires.4)
+overflow_sub-allowance c = omega (arith, c.requires.4)
 
 pub returns : goal.returns
 returns c =
-    let b = c in
-    let D = data_of (frame_of b.args.centroids.now b.args.order.now b.args.config b.args.passes.now) b.args.slots b.args.words.now b.args.packed.now b.args.stars.now in
-    let m : Means c.read_slot-read.result.outcome c.read_slot-read.result.candidate (filled (feed D) b.args.p) (valid_at (feed D) b.args.p) (gives (feed D) b.args.p) =
-    means D b.args.p c.read_slot-read.result
-    (read_slot_same D b.args.p b.args.current _ _ _ b.requires.0.asked b.requires.2 b.requires.3 (here_of D b.args.cursor b.args.p _ _ _ _ b.requires.0 b.requires.1) _ (ap (λ z. z.field) c.pass_at-field.ensures) _ c.read_slot-read.ensures) in
+    let D = data_of (frame_of c.args.centroids.now c.args.order.now c.args.config c.args.passes.now) c.args.slots c.args.words.now c.args.packed.now c.args.stars.now in
+    let m : Means c.read_slot-read.result.outcome c.read_slot-read.result.candidate (filled (feed D) c.args.p) (valid_at (feed D) c.args.p) (gives (feed D) c.args.p) =
+    means D c.args.p c.read_slot-read.result
+    (read_slot_same D c.args.p c.args.current _ _ _ c.requires.0.asked c.requires.2 c.requires.3 (here_of D c.args.cursor c.args.p _ _ _ _ c.requires.0 c.requires.1) _ (ap (λ z. z.field) c.pass_at-field.ensures) _ c.read_slot-read.ensures) in
     let n = sym c.refuses.ensures ∙ c.if-refuses.false in
-    let v = c.step-s.ensures.cursor _ _ _ (c.saw_entry.ensures ∙ entry_filled D b.args.p c.read_slot-read.result m n) in
+    let v = c.step-s.ensures.cursor _ _ _ (c.saw_entry.ensures ∙ entry_filled D c.args.p c.read_slot-read.result m n) in
     let d = c.step-s.ensures.caches in
-    let y = ready_after D b.args.cursor b.args.p _ _ _ _ _ _ _ _ b.requires.0 b.requires.1 _ v d.pass (d.four _ (loaded_four D.frame b.args.p.pass b.args.p.four _ _ b.requires.3 b.requires.2.is)) in
-    read_iterated D b.args.st b.args.allowance b.args.cursor b.args.p b.requires.1 b.requires.4 _ v _ _ _ _ y c.read_slot-read.result n m _ c.iteration_after.ensures
+    let y = ready_after D c.args.cursor c.args.p _ _ _ _ _ _ _ _ c.requires.0 c.requires.1 _ v d.pass (d.four _ (loaded_four D.frame c.args.p.pass c.args.p.four _ _ c.requires.3 c.requires.2.is)) in
+    read_iterated D c.args.st c.args.allowance c.args.cursor c.args.p c.requires.1 c.requires.4 _ v _ _ _ _ y c.read_slot-read.result n m _ c.iteration_after.ensures

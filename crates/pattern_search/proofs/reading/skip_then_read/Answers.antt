@@ -11,50 +11,44 @@ use Rattle.pattern_search.proofs.reading.skip_then_read.Goals as goal
 
 pub load-current-requires : goal.load-current-requires
 load-current-requires c =
-    let b = c in
-    load_ready (data_of (frame_of b.args.centroids.now b.args.order.now b.args.config b.args.passes.now) b.args.slots b.args.words.now b.args.packed.now b.args.stars.now) b.args.cursor b.args.p _ _ _ _ b.requires.0 b.requires.1
+    load_ready (data_of (frame_of c.args.centroids.now c.args.order.now c.args.config c.args.passes.now) c.args.slots c.args.words.now c.args.packed.now c.args.stars.now) c.args.cursor c.args.p _ _ _ _ c.requires.0 c.requires.1
 
 pub skip_reads-s-requires : goal.skip_reads-s-requires
 skip_reads-s-requires c =
-    let b = c in
-    let D = data_of (frame_of b.args.centroids.now b.args.order.now b.args.config b.args.passes.now) b.args.slots b.args.words.now b.args.packed.now b.args.stars.now in
+    let D = data_of (frame_of c.args.centroids.now c.args.order.now c.args.config c.args.passes.now) c.args.slots c.args.words.now c.args.packed.now c.args.stars.now in
     let l = c.load-current.ensures in
-    let r = at_read D b.args.p c.load-current.result _ _ _ b.requires.0.asked l.0 l.1 (here_of D b.args.cursor b.args.p _ _ _ _ b.requires.0 b.requires.1) b.requires.0.table in
-    (r.key, r.few, r.probe, b.requires.0.table, b.requires.2, l.1.hashes_long)
+    let r = at_read D c.args.p c.load-current.result _ _ _ c.requires.0.asked l.0 l.1 (here_of D c.args.cursor c.args.p _ _ _ _ c.requires.0 c.requires.1) c.requires.0.table in
+    (r.key, r.few, r.probe, c.requires.0.table, c.requires.2, l.1.hashes_long)
 
 pub after_skip-on-requires : goal.after_skip-on-requires
 after_skip-on-requires c =
-    let b = c in
-    let D = data_of (frame_of b.args.centroids.now b.args.order.now b.args.config b.args.passes.now) b.args.slots b.args.words.now b.args.packed.now b.args.stars.now in
+    let D = data_of (frame_of c.args.centroids.now c.args.order.now c.args.config c.args.passes.now) c.args.slots c.args.words.now c.args.packed.now c.args.stars.now in
     let l = c.load-current.ensures in
-    let t = (skip_reads_passes D b.args.cursor b.args.p _ _ _ _ _ _ _ _ b.requires.0 b.requires.1 l.0 l.1 b.args.allowance _ c.skip_reads-s.ensures) in
-    let m = room_of D b.args.cursor b.args.p _ _ _ _ b.requires.0 b.requires.1 in
+    let t = (skip_reads_passes D c.args.cursor c.args.p _ _ _ _ _ _ _ _ c.requires.0 c.requires.1 l.0 l.1 c.args.allowance _ c.skip_reads-s.ensures) in
+    let m = room_of D c.args.cursor c.args.p _ _ _ _ c.requires.0 c.requires.1 in
     (t.fewer, m.0, t.room)
 
 pub returns-then-s-eq0 : goal.returns-then-s-eq0
 returns-then-s-eq0 c =
-    let b = c in
-    let D = data_of (frame_of b.args.centroids.now b.args.order.now b.args.config b.args.passes.now) b.args.slots b.args.words.now b.args.packed.now b.args.stars.now in
+    let D = data_of (frame_of c.args.centroids.now c.args.order.now c.args.config c.args.passes.now) c.args.slots c.args.words.now c.args.packed.now c.args.stars.now in
     let l = c.load-current.ensures in
-    let t = (skip_reads_passes D b.args.cursor b.args.p _ _ _ _ _ _ _ _ b.requires.0 b.requires.1 l.0 l.1 b.args.allowance _ c.skip_reads-s.ensures) in
+    let t = (skip_reads_passes D c.args.cursor c.args.p _ _ _ _ _ _ _ _ c.requires.0 c.requires.1 l.0 l.1 c.args.allowance _ c.skip_reads-s.ensures) in
     let v = c.after_skip-on.ensures in
-    iterate_stop D b.args.st b.args.allowance b.args.cursor _ (reply_used D b.args.st _ _ _ c.state.ensures _ (ap (λ x. x.next) v ∙ t.at) c.if-s-eq0.true _ c.plain-reply.ensures ∙ ap searched (ap (continuing (feed D) b.args.config.cap b.args.st _) v ∙ t.same b.args.st)) _ _ _ _ _ _ c.stop.ensures
+    iterate_stop D c.args.st c.args.allowance c.args.cursor _ (reply_used D c.args.st _ _ _ c.state.ensures _ (ap (λ x. x.next) v ∙ t.at) c.if-s-eq0.true _ c.plain-reply.ensures ∙ ap searched (ap (continuing (feed D) c.args.config.cap c.args.st _) v ∙ t.same c.args.st)) _ _ _ _ _ _ c.stop.ensures
 
 pub single_read-requires : goal.single_read-requires
 single_read-requires c =
-    let b = c in
-    let D = data_of (frame_of b.args.centroids.now b.args.order.now b.args.config b.args.passes.now) b.args.slots b.args.words.now b.args.packed.now b.args.stars.now in
+    let D = data_of (frame_of c.args.centroids.now c.args.order.now c.args.config c.args.passes.now) c.args.slots c.args.words.now c.args.packed.now c.args.stars.now in
     let l = c.load-current.ensures in
-    let t = (skip_reads_passes D b.args.cursor b.args.p _ _ _ _ _ _ _ _ b.requires.0 b.requires.1 l.0 l.1 b.args.allowance _ c.skip_reads-s.ensures) in
+    let t = (skip_reads_passes D c.args.cursor c.args.p _ _ _ _ _ _ _ _ c.requires.0 c.requires.1 l.0 l.1 c.args.allowance _ c.skip_reads-s.ensures) in
     let v = c.after_skip-on.ensures in
     let q = c.at_key-to.ensures in
-    (after_skip_ready D b.args.cursor b.args.p _ _ _ _ _ _ _ _ b.requires.0 b.requires.1 l.0 l.1 b.args.allowance _ c.skip_reads-s.ensures _ v, ap (λ x. x.next) v ∙ t.at ∙ ap goes (sym q), rw q l.0, rw q l.1, omega (arith, c.if-s-eq0.false))
+    (after_skip_ready D c.args.cursor c.args.p _ _ _ _ _ _ _ _ c.requires.0 c.requires.1 l.0 l.1 c.args.allowance _ c.skip_reads-s.ensures _ v, ap (λ x. x.next) v ∙ t.at ∙ ap goes (sym q), rw q l.0, rw q l.1, omega (arith, c.if-s-eq0.false))
 
 pub returns : goal.returns
 returns c =
-    let b = c in
-    let D = data_of (frame_of b.args.centroids.now b.args.order.now b.args.config b.args.passes.now) b.args.slots b.args.words.now b.args.packed.now b.args.stars.now in
+    let D = data_of (frame_of c.args.centroids.now c.args.order.now c.args.config c.args.passes.now) c.args.slots c.args.words.now c.args.packed.now c.args.stars.now in
     let l = c.load-current.ensures in
-    let t = (skip_reads_passes D b.args.cursor b.args.p _ _ _ _ _ _ _ _ b.requires.0 b.requires.1 l.0 l.1 b.args.allowance _ c.skip_reads-s.ensures) in
+    let t = (skip_reads_passes D c.args.cursor c.args.p _ _ _ _ _ _ _ _ c.requires.0 c.requires.1 l.0 l.1 c.args.allowance _ c.skip_reads-s.ensures) in
     let v = c.after_skip-on.ensures in
-    iterated_from D b.args.st b.args.allowance _ b.args.cursor _ c.single_read.new.places c.single_read.new.geometry c.load-current.new.hashes c.single_read.result t.fewer (ap (continuing (feed D) b.args.config.cap b.args.st _) v ∙ t.same b.args.st) c.single_read.ensures
+    iterated_from D c.args.st c.args.allowance _ c.args.cursor _ c.single_read.new.places c.single_read.new.geometry c.load-current.new.hashes c.single_read.result t.fewer (ap (continuing (feed D) c.args.config.cap c.args.st _) v ∙ t.same c.args.st) c.single_read.ensures

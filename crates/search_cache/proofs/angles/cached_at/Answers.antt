@@ -7,13 +7,13 @@ use Rattle.search_cache.proofs.AnglePlaces.{place_inside}
 use Rattle.search_cache.proofs.angles.cached_at.Goals as goal
 
 pub overflow_add-result : goal.overflow_add-result
-overflow_add-result c = let b = c in record { fits = omega (arith, c.row.ensures, place_inside b.args.i b.args.j b.requires.0 b.requires.1) }
+overflow_add-result c = record { fits = omega (arith, c.row.ensures, place_inside c.args.i c.args.j c.requires.0 c.requires.1) }
 
 pub offset_bounds-geometry-row : goal.offset_bounds-geometry-row
-offset_bounds-geometry-row c = let b = c in record { fits = omega (arith, c.row.ensures, place_inside b.args.i b.args.j b.requires.0 b.requires.1) }
+offset_bounds-geometry-row c = record { fits = omega (arith, c.row.ensures, place_inside c.args.i c.args.j c.requires.0 c.requires.1) }
 
 pub bounds-geometry-row : goal.bounds-geometry-row
-bounds-geometry-row c = let b = c in omega (arith, c.row.ensures, place_inside b.args.i b.args.j b.requires.0 b.requires.1)
+bounds-geometry-row c = omega (arith, c.row.ensures, place_inside c.args.i c.args.j c.requires.0 c.requires.1)
 
 pub returns : goal.returns
-returns c = let b = c in ap (λ (x : ℕ). get_or b.args.geometry.now (x + b.args.i) nan) c.row.ensures
+returns c = ap (λ (x : ℕ). get_or c.args.geometry.now (x + c.args.i) nan) c.row.ensures

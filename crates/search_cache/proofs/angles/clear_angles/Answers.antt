@@ -25,5 +25,4 @@ loop-i-preserved c =
 pub returns : goal.returns
 returns c =
     let l = c.loop-i in
-    let b = c in
-    (forgot_cached _ l.i b.args.n _ b.requires.0 (omega (arith, l.invariant.2)) l.invariant.3, l.invariant.3.directions, l.invariant.3.long)
+    (forgot_cached _ l.i c.args.n _ c.requires.0 (omega (arith, l.invariant.2)) l.invariant.3, l.invariant.3.directions, l.invariant.3.long)

@@ -10,38 +10,32 @@ use Rattle.search_cache.proofs.angles.compute_six.Goals as goal
 pub keep-requires : goal.keep-requires
 unfolding angles
 keep-requires c =
-    let e = c in
-    let b = c in
-    let r = b.requires.0 in
-    let q = b.args.q in
-    let m = b.args.geometry.now in
-    let six = six_are m q r b.requires.1 _ _ _ e.four_at-v.ensures b.requires.3 e.edge_angles-six.ensures in
-    let s0 = still_same m b.requires.2 in
+    let r = c.requires.0 in
+    let q = c.args.q in
+    let m = c.args.geometry.now in
+    let six = six_are m q r c.requires.1 _ _ _ c.four_at-v.ensures c.requires.3 c.edge_angles-six.ensures in
+    let s0 = still_same m c.requires.2 in
     asked_again m _ q.a q.b _ s0 (omega (arith, r.ab, r.bc, r.cd, r.dn)) (omega (arith, r.ab, r.bc, r.cd, r.dn)) (ap (λ (l : List Float). get_or l 0 nan) six)
 
 pub keep-requires-2 : goal.keep-requires-2
 unfolding angles
 keep-requires-2 c =
-    let e = c in
-    let b = c in
-    let r = b.requires.0 in
-    let q = b.args.q in
-    let m = b.args.geometry.now in
-    let six = six_are m q r b.requires.1 _ _ _ e.four_at-v.ensures b.requires.3 e.edge_angles-six.ensures in
-    let s0 = still_same m b.requires.2 in
+    let r = c.requires.0 in
+    let q = c.args.q in
+    let m = c.args.geometry.now in
+    let six = six_are m q r c.requires.1 _ _ _ c.four_at-v.ensures c.requires.3 c.edge_angles-six.ensures in
+    let s0 = still_same m c.requires.2 in
     let s1 = still_on m _ _ s0 c.keep.ensures in
     asked_again m _ q.a q.c _ s1 (omega (arith, r.ab, r.bc, r.cd, r.dn)) (omega (arith, r.ab, r.bc, r.cd, r.dn)) (ap (λ (l : List Float). get_or l 1 nan) six)
 
 pub keep-requires-3 : goal.keep-requires-3
 unfolding angles
 keep-requires-3 c =
-    let e = c in
-    let b = c in
-    let r = b.requires.0 in
-    let q = b.args.q in
-    let m = b.args.geometry.now in
-    let six = six_are m q r b.requires.1 _ _ _ e.four_at-v.ensures b.requires.3 e.edge_angles-six.ensures in
-    let s0 = still_same m b.requires.2 in
+    let r = c.requires.0 in
+    let q = c.args.q in
+    let m = c.args.geometry.now in
+    let six = six_are m q r c.requires.1 _ _ _ c.four_at-v.ensures c.requires.3 c.edge_angles-six.ensures in
+    let s0 = still_same m c.requires.2 in
     let s1 = still_on m _ _ s0 c.keep.ensures in
     let s2 = still_on m _ _ s1 c.keep-2.ensures in
     asked_again m _ q.a q.d _ s2 (omega (arith, r.ab, r.bc, r.cd, r.dn)) (omega (arith, r.ab, r.bc, r.cd, r.dn)) (ap (λ (l : List Float). get_or l 2 nan) six)
@@ -49,13 +43,11 @@ keep-requires-3 c =
 pub keep-requires-4 : goal.keep-requires-4
 unfolding angles
 keep-requires-4 c =
-    let e = c in
-    let b = c in
-    let r = b.requires.0 in
-    let q = b.args.q in
-    let m = b.args.geometry.now in
-    let six = six_are m q r b.requires.1 _ _ _ e.four_at-v.ensures b.requires.3 e.edge_angles-six.ensures in
-    let s0 = still_same m b.requires.2 in
+    let r = c.requires.0 in
+    let q = c.args.q in
+    let m = c.args.geometry.now in
+    let six = six_are m q r c.requires.1 _ _ _ c.four_at-v.ensures c.requires.3 c.edge_angles-six.ensures in
+    let s0 = still_same m c.requires.2 in
     let s1 = still_on m _ _ s0 c.keep.ensures in
     let s2 = still_on m _ _ s1 c.keep-2.ensures in
     let s3 = still_on m _ _ s2 c.keep-3.ensures in
@@ -64,13 +56,11 @@ keep-requires-4 c =
 pub keep-requires-5 : goal.keep-requires-5
 unfolding angles
 keep-requires-5 c =
-    let e = c in
-    let b = c in
-    let r = b.requires.0 in
-    let q = b.args.q in
-    let m = b.args.geometry.now in
-    let six = six_are m q r b.requires.1 _ _ _ e.four_at-v.ensures b.requires.3 e.edge_angles-six.ensures in
-    let s0 = still_same m b.requires.2 in
+    let r = c.requires.0 in
+    let q = c.args.q in
+    let m = c.args.geometry.now in
+    let six = six_are m q r c.requires.1 _ _ _ c.four_at-v.ensures c.requires.3 c.edge_angles-six.ensures in
+    let s0 = still_same m c.requires.2 in
     let s1 = still_on m _ _ s0 c.keep.ensures in
     let s2 = still_on m _ _ s1 c.keep-2.ensures in
     let s3 = still_on m _ _ s2 c.keep-3.ensures in
@@ -80,13 +70,11 @@ keep-requires-5 c =
 pub keep-requires-6 : goal.keep-requires-6
 unfolding angles
 keep-requires-6 c =
-    let e = c in
-    let b = c in
-    let r = b.requires.0 in
-    let q = b.args.q in
-    let m = b.args.geometry.now in
-    let six = six_are m q r b.requires.1 _ _ _ e.four_at-v.ensures b.requires.3 e.edge_angles-six.ensures in
-    let s0 = still_same m b.requires.2 in
+    let r = c.requires.0 in
+    let q = c.args.q in
+    let m = c.args.geometry.now in
+    let six = six_are m q r c.requires.1 _ _ _ c.four_at-v.ensures c.requires.3 c.edge_angles-six.ensures in
+    let s0 = still_same m c.requires.2 in
     let s1 = still_on m _ _ s0 c.keep.ensures in
     let s2 = still_on m _ _ s1 c.keep-2.ensures in
     let s3 = still_on m _ _ s2 c.keep-3.ensures in
@@ -96,14 +84,12 @@ keep-requires-6 c =
 
 pub returns : goal.returns
 returns c =
-    let e = c in
-    let b = c in
-    let m = b.args.geometry.now in
-    let s0 = still_same m b.requires.2 in
+    let m = c.args.geometry.now in
+    let s0 = still_same m c.requires.2 in
     let s1 = still_on m _ _ s0 c.keep.ensures in
     let s2 = still_on m _ _ s1 c.keep-2.ensures in
     let s3 = still_on m _ _ s2 c.keep-3.ensures in
     let s4 = still_on m _ _ s3 c.keep-4.ensures in
     let s5 = still_on m _ _ s4 c.keep-5.ensures in
     let s6 = still_on m _ _ s5 c.keep-6.ensures in
-    record { six = six_are m b.args.q b.requires.0 b.requires.1 _ _ _ e.four_at-v.ensures b.requires.3 e.edge_angles-six.ensures; directions = s6 }
+    record { six = six_are m c.args.q c.requires.0 c.requires.1 _ _ _ c.four_at-v.ensures c.requires.3 c.edge_angles-six.ensures; directions = s6 }

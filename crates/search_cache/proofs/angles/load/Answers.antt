@@ -3,14 +3,13 @@ use native.Mathlib.Omega.{arith}
 use Rattle.search_cache.proofs.angles.load.Goals as goal
 
 pub put_directions-requires : goal.put_directions-requires
-put_directions-requires c = let b = c in (b.requires.0, b.requires.1, b.requires.2)
+put_directions-requires c = (c.requires.0, c.requires.1, c.requires.2)
 
 pub clear_angles-requires : goal.clear_angles-requires
-clear_angles-requires c = let b = c in (b.requires.0, c.put_directions.ensures.1)
+clear_angles-requires c = (c.requires.0, c.put_directions.ensures.1)
 
 pub returns : goal.returns
 returns c =
-    let b = c in
     let p = c.put_directions.ensures in
     let f = c.clear_angles.ensures in
-    record { directions = λ k l. f.1 k (omega (arith, b.requires.0)) ∙ p.0 k l; cached = f.0; long = f.2 }
+    record { directions = λ k l. f.1 k (omega (arith, c.requires.0)) ∙ p.0 k l; cached = f.0; long = f.2 }

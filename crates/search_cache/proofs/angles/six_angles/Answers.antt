@@ -3,5 +3,4 @@ use Rattle.search_cache.proofs.angles.six_angles.Goals as goal
 
 pub returns-then-all_known : goal.returns-then-all_known
 returns-then-all_known c =
-    let b = c in
-    record { six = six_right b.args.geometry.now b.args.q b.requires.0 b.requires.1 _ c.cached_six-kept.ensures (c.all_known.ensures.known c.if-all_known.true); directions = still_same _ b.requires.2 }
+    record { six = six_right c.args.geometry.now c.args.q c.requires.0 c.requires.1 _ c.cached_six-kept.ensures (c.all_known.ensures.known c.if-all_known.true); directions = still_same _ c.requires.2 }

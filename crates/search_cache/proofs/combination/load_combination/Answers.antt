@@ -9,25 +9,22 @@ use Rattle.search_cache.proofs.combination.load_combination.Goals as goal
 
 pub returns-then-same_combination : goal.returns-then-same_combination
 returns-then-same_combination c =
-    let b = c in
-    record { loaded = λ F e d v. four_again F _ _ _ d c.if-cached.true (same_is _ _ (sym c.same_combination.ensures ∙ c.if-same_combination.true)); rest = (refl, refl, refl, b.requires.5, still_same _ b.requires.4) }
+    record { loaded = λ F e d v. four_again F _ _ _ d c.if-cached.true (same_is _ _ (sym c.same_combination.ensures ∙ c.if-same_combination.true)); rest = (refl, refl, refl, c.requires.5, still_same _ c.requires.4) }
 
 pub six_angles-angles-requires : goal.six_angles-angles-requires
-six_angles-angles-requires c = let b = c in (rises_wider _ 64 b.args.four b.requires.2.few b.requires.1, cached_fewer _ _ _ b.requires.1.dn b.requires.2, b.requires.4)
+six_angles-angles-requires c = (rises_wider _ 64 c.args.four c.requires.2.few c.requires.1, cached_fewer _ _ _ c.requires.1.dn c.requires.2, c.requires.4)
 
 pub prepare-ready-requires : goal.prepare-ready-requires
 prepare-ready-requires c =
-    let b = c in
-    let v = four_at b.args.geometry.now b.args.four in
+    let v = four_at c.args.geometry.now c.args.four in
     let s = ap image_from c.six_angles-angles.ensures.six ∙ angles_show v in
-    (b.requires.0, rw s (image_ratios_of v b.requires.3), b.requires.5)
+    (c.requires.0, rw s (image_ratios_of v c.requires.3), c.requires.5)
 
 pub returns : goal.returns
 returns c =
-    let b = c in
     let p = c.prepare-ready.ensures in
     let x = c.six_angles-angles.ensures in
-    let v = four_at b.args.geometry.now b.args.four in
+    let v = four_at c.args.geometry.now c.args.four in
     let s = ap image_from x.six ∙ angles_show v in record {
       loaded = λ F e d w. record { yes = refl; is = refl; cached = four_prepared F _ _ _ _ _ _ _ e (s ∙ ap image_of (sym w)) p; hashes_long = p.hashes_long };
       rest = (refl, refl, refl, p.hashes_long, x.directions);

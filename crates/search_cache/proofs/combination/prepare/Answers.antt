@@ -1,5 +1,5 @@
 use native.Mathlib.Omega.{arith}
-use Rattle.search_feed.proofs.WithinLimits.{fitting, of_tolerance}
+use Rattle.search_feed.proofs.WithinLimits.{fitting, tolerance_narrow}
 use Rattle.pattern_keys.proofs.KeyBounds.{keys_count}
 use Rattle.search_cache.specs.CombinationKeys.{image_from}
 use Rattle.search_cache.proofs.LoadCombination.{prepared}
@@ -10,15 +10,13 @@ max_error-e-requires c = (fitting c.args.config c.requires.0).narrow.few_bins
 
 pub key_hashes-n-requires : goal.key_hashes-n-requires
 key_hashes-n-requires c =
-    let b = c in
-    let t = of_tolerance b.args.config b.requires.0 in
-    (rw c.image_of-image.ensures b.requires.1, rw c.max_error-e.ensures t, b.requires.2)
+    let t = tolerance_narrow c.args.config c.requires.0 in
+    (rw c.image_of-image.ensures c.requires.1, rw c.max_error-e.ensures t, c.requires.2)
 
 pub overflow_cast-result : goal.overflow_cast-result
 overflow_cast-result c =
-    let b = c in
     let m = c.image_of-image.ensures in
-    let k = (keys_count (image_from b.args.angles).ratios _ b.args.config.bins b.requires.1 (of_tolerance b.args.config b.requires.0)).1 in
+    let k = (keys_count (image_from c.args.angles).ratios _ c.args.config.bins c.requires.1 (tolerance_narrow c.args.config c.requires.0)).1 in
     let h = rw (m, c.max_error-e.ensures) at c.key_hashes-n.ensures.count in
     record { fits = omega (arith, h, k) }
 

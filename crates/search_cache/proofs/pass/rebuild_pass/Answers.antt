@@ -7,25 +7,22 @@ use Rattle.search_cache.proofs.pass.rebuild_pass.Goals as goal
 
 pub thin-kept-requires : goal.thin-kept-requires
 thin-kept-requires c =
-    let b = c in
-    let q = b.requires.0 in
-    (q.three, places_at_most_256 _ _ q.one q.three, (fitting b.args.config q.four).few_stars, b.requires.1, c.no_directions-dirs.ensures)
+    let q = c.requires.0 in
+    (q.three, places_at_most_256 _ _ q.one q.three, (fitting c.args.config q.four).few_stars, c.requires.1, c.no_directions-dirs.ensures)
 
 pub load-requires : goal.load-requires
 load-requires c =
-    let b = c in
     let k = c.thin-kept.ensures in
-    (omega (arith, kept_most _ _ _ _ _ _ _ k, (fitting b.args.config b.requires.0.four).few_stars), k.dirs_long, b.requires.2)
+    (omega (arith, kept_most _ _ _ _ _ _ _ k, (fitting c.args.config c.requires.0.four).few_stars), k.dirs_long, c.requires.2)
 
 pub returns : goal.returns
 returns c =
-    let b = c in
     let k = c.thin-kept.ensures in
     let l = c.load.ensures in record {
       loaded = record {
         yes = refl;
         is = refl;
-        inside = b.requires.3;
+        inside = c.requires.3;
         cached = pass_thinned _ _ _ _ _ _ _ c.pass_at-p.ensures k l;
         places_long = k.places_long;
         geometry_long = l.long;

@@ -5,24 +5,22 @@ use Rattle.search_questions.proofs.StateFits.{fresh_counted, fresh_by_reads, end
 use Rattle.search_questions.proofs.question_8.state_fits.Goals as goal
 
 pub returns-then-st-ne0 : goal.returns-then-st-ne0
-returns-then-st-ne0 c = let b = c in record { fits = λ w e s. fresh_counted _ _ _ _ c.in-Fresh.is c.if-st-ne0.true; caches = (b.requires.1, b.requires.2) }
+returns-then-st-ne0 c = record { fits = λ w e s. fresh_counted _ _ _ _ c.in-Fresh.is c.if-st-ne0.true; caches = (c.requires.1, c.requires.2) }
 
 pub returns-then-not-here : goal.returns-then-not-here
 returns-then-not-here c =
-    let b = c in
-    let F = frame_of b.args.centroids.now b.args.order.now b.args.config b.args.passes.now in
+    let F = frame_of c.args.centroids.now c.args.order.now c.args.config c.args.passes.now in
     let h = c.position_exists-here.ensures in
-    record { fits = λ w e s. at_not (feed (data_of F b.args.slots w e s)) b.args.st.phase b.args.st.patterns b.args.st.reads _ c.in-At.is _ (h.fits w e s) (not-true _ c.if-not-here.true); caches = h.caches }
+    record { fits = λ w e s. at_not (feed (data_of F c.args.slots w e s)) c.args.st.phase c.args.st.patterns c.args.st.reads _ c.in-At.is _ (h.fits w e s) (not-true _ c.if-not-here.true); caches = h.caches }
 
 pub returns-else-st-ne0 : goal.returns-else-st-ne0
-returns-else-st-ne0 c = let b = c in record { fits = λ w e s. fresh_by_reads _ _ _ _ c.in-Fresh.is c.if-st-ne0.false; caches = (b.requires.1, b.requires.2) }
+returns-else-st-ne0 c = record { fits = λ w e s. fresh_by_reads _ _ _ _ c.in-Fresh.is c.if-st-ne0.false; caches = (c.requires.1, c.requires.2) }
 
 pub returns-in-Ended : goal.returns-in-Ended
-returns-in-Ended c = let b = c in record { fits = λ w e s. ended_by_counts _ _ _ _ _ c.in-Ended.is _ c.within_counts.ensures; caches = (b.requires.1, b.requires.2) }
+returns-in-Ended c = record { fits = λ w e s. ended_by_counts _ _ _ _ _ c.in-Ended.is _ c.within_counts.ensures; caches = (c.requires.1, c.requires.2) }
 
 pub returns-else-not-here : goal.returns-else-not-here
 returns-else-not-here c =
-    let b = c in
-    let F = frame_of b.args.centroids.now b.args.order.now b.args.config b.args.passes.now in
+    let F = frame_of c.args.centroids.now c.args.order.now c.args.config c.args.passes.now in
     let h = c.position_exists-here.ensures in
-    record { fits = λ w e s. at_by_counts (feed (data_of F b.args.slots w e s)) b.args.st.phase b.args.st.patterns b.args.st.reads _ c.in-At.is _ (h.fits w e s) (not-false _ c.if-not-here.false) _ c.within_counts-in-At.ensures; caches = h.caches }
+    record { fits = λ w e s. at_by_counts (feed (data_of F c.args.slots w e s)) c.args.st.phase c.args.st.patterns c.args.st.reads _ c.in-At.is _ (h.fits w e s) (not-false _ c.if-not-here.false) _ c.within_counts-in-At.ensures; caches = h.caches }

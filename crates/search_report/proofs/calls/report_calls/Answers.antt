@@ -8,17 +8,14 @@ loop-rounds-init c = refl
 
 pub loop-rounds-preserved-then-not-goes : goal.loop-rounds-preserved-then-not-goes
 loop-rounds-preserved-then-not-goes c =
-    let l = c in
     let s = c.search-s in
-    one_ends _ 100000 l.loop-rounds.rounds l.loop-rounds.at s.result s.ensures.returned c.loop-rounds-test.true (sym c.report_answer-goes.ensures ∙ not-true _ c.if-not-goes.true-raw) ∙ l.loop-rounds.invariant
+    one_ends _ 100000 c.loop-rounds.rounds c.loop-rounds.at s.result s.ensures.returned c.loop-rounds-test.true (sym c.report_answer-goes.ensures ∙ not-true _ c.if-not-goes.true-raw) ∙ c.loop-rounds.invariant
 
 pub loop-rounds-preserved : goal.loop-rounds-preserved
 loop-rounds-preserved c =
-    let l = c in
     let s = c.search-s in
-    one_goes_on _ 100000 l.loop-rounds.rounds l.loop-rounds.at s.result s.ensures.returned c.loop-rounds-test.true (sym c.report_answer-goes.ensures ∙ not-false _ c.if-not-goes.false-raw) ∙ l.loop-rounds.invariant
+    one_goes_on _ 100000 c.loop-rounds.rounds c.loop-rounds.at s.result s.ensures.returned c.loop-rounds-test.true (sym c.report_answer-goes.ensures ∙ not-false _ c.if-not-goes.false-raw) ∙ c.loop-rounds.invariant
 
 pub returns : goal.returns
 returns c =
-    let o = c in
-    none_left _ 100000 _ o.loop-rounds.at o.loop-rounds-test.false ∙ o.loop-rounds.invariant
+    none_left _ 100000 _ c.loop-rounds.at c.loop-rounds-test.false ∙ c.loop-rounds.invariant

@@ -8,8 +8,7 @@ use Rattle.search_step.proofs.next_read.after_combination.Goals as goal
 
 pub overflow_add-p : goal.overflow_add-p
 overflow_add-p c =
-    let b = c in
-    record { fits = omega (arith, b.requires.1.loaded.inside, (passes_fitting b.args.passes.now b.requires.0.five).few) }
+    record { fits = omega (arith, c.requires.1.loaded.inside, (passes_fitting c.args.passes.now c.requires.0.five).few) }
 
 pub to_pass-requires : goal.to_pass-requires
 to_pass-requires c = (c.requires.0, loaded_pass _ _ _ _ _ c.requires.1.loaded, next_pass_inside _ _ _ _ _ c.requires.1.loaded)

@@ -5,8 +5,7 @@ use Rattle.search_step.proofs.step.step.Goals as goal
 
 pub returns : goal.returns
 returns c =
-    let b = c in
     let r = c.after-reached.ensures in record {
-      cursor = λ w e s f. stepped (feed (data_of (frame_of b.args.centroids.now b.args.order.now b.args.config b.args.passes.now) b.args.slots w e s)) b.args.config.cap b.args.cursor b.args.p _ c.count-n.ensures _ (r.next w e s f);
+      cursor = λ w e s f. stepped (feed (data_of (frame_of c.args.centroids.now c.args.order.now c.args.config c.args.passes.now) c.args.slots w e s)) c.args.config.cap c.args.cursor c.args.p _ c.count-n.ensures _ (r.next w e s f);
       caches = r.caches;
     }

@@ -10,7 +10,7 @@ pub loop-j-init : goal.loop-j-init
 loop-j-init c = (omega arith, ahead_none _ _ _ _ c.requires.3)
 
 pub unit_vector-requires : goal.unit_vector-requires
-unit_vector-requires c = let s = c in let a = s.args in rw c.centroid_of-i.ensures (places_have_centroids a.order.now a.centroids.now _ s.requires.0 (omega arith))
+unit_vector-requires c = let a = c.args in rw c.centroid_of-i.ensures (places_have_centroids a.order.now a.centroids.now _ c.requires.0 (omega arith))
 
 pub loop-j-preserved : goal.loop-j-preserved
 loop-j-preserved c =

@@ -14,8 +14,7 @@ loop-j-init c = (omega arith, near_none c.args.cosine c.args.v c.args.cols.now)
 pub loop-j-preserved : goal.loop-j-preserved
 unfolding row_at
 loop-j-preserved c =
-    let b = c in
-    let a = b.args in
+    let a = c.args in
     let l = c.loop-j in
     let d = ap (lt a.cosine) (sym c.dot.ensures) in (
       omega arith,
