@@ -1,5 +1,5 @@
 -- What a search gives to a host in C: document 01's answers as numbers. Definitions only.
-use Rattle.std.specs.Prelude.{ℕ, Bool, cond, [], ◌∷◌, eqb, get_or}
+use Rattle.std.specs.Prelude.{ℕ, Bool, cond, [], ◌∷◌, eqb, get_or, Result, Ok, Err}
 use Rattle.undivided_run.specs.declared.state.Position.{Position}
 use Rattle.undivided_run.specs.declared.state.State.{State}
 use Rattle.undivided_run.specs.declared.state.Phase.{Phase}
@@ -8,6 +8,9 @@ use Rattle.undivided_run.specs.declared.state.Status.{Status}
 use Rattle.undivided_run.specs.declared.state.Status.TheVariants.{TooFew, NoMatch, Timeout}
 use Rattle.candidates.specs.declared.entry_tests.Candidate.{Candidate}
 use Rattle.candidates.specs.StarVectors.{no_star}
+use Rattle.candidates.specs.NoCandidate.{no_candidate}
+use Rattle.question.specs.Question.{number_of}
+use Rattle.question.specs.declared.Question.{Question}
 use Rattle.pattern_search.specs.declared.Searched.{Searched}
 use Rattle.pattern_search.specs.declared.Answer.{Answer as Said}
 use Rattle.complete.specs.Question14.{place_at}
@@ -83,14 +86,18 @@ candidate_numbers c =
 abbrev pub used_state : ℕ → StarState → StarState → StarState
 used_state allowance raw s = cond (eqb allowance 0) raw s
 
+-- The numbers of an answer that gives no candidate; the candidate's numbers are all zero.
+abbrev pub without_candidate : ℕ → ℕ → StarState → StarAnswer
+without_candidate answer number s = record { answer = answer; number = number; candidate = candidate_numbers no_candidate; state = s }
+
 -- The numbers of a call's answer: 0 for a candidate, 1 for allowance used, 2 for ended with the number of its status, 3 for refused with the
--- question's number and the state as received. Here `raw` is that state, c the candidate, and s the state that the search leaves.
-abbrev pub answer_with : Said → ℕ → StarState → StarCandidate → StarState → StarAnswer
-answer_with Said.Candidate allowance raw c s = record { answer = 0; number = 0; candidate = c; state = s }
-answer_with Said.AllowanceUsed allowance raw c s = record { answer = 1; number = 0; candidate = c; state = used_state allowance raw s }
-answer_with (Said.Ended t) allowance raw c s = record { answer = 2; number = status_number t; candidate = c; state = s }
-answer_with (Said.Refused n) allowance raw c s = record { answer = 3; number = n; candidate = c; state = raw }
+-- question's number and the state as received. Here `raw` is that state and s the state that the search leaves.
+abbrev pub answer_with : Result Said Question → ℕ → StarState → StarState → StarAnswer
+answer_with (Ok (Said.Candidate x)) allowance raw s = record { answer = 0; number = 0; candidate = candidate_numbers x; state = s }
+answer_with (Ok Said.AllowanceUsed) allowance raw s = without_candidate 1 0 (used_state allowance raw s)
+answer_with (Ok (Said.Ended t)) allowance raw s = without_candidate 2 (status_number t) s
+answer_with (Err q) allowance raw s = without_candidate 3 (number_of q) raw
 
 -- The numbers of the answer that a search returned; `raw` is the state as received.
 abbrev pub answer_of : StarState → ℕ → Searched → StarAnswer
-answer_of raw allowance r = answer_with r.answer allowance raw (candidate_numbers r.candidate) (state_numbers r.state)
+answer_of raw allowance r = answer_with r.answer allowance raw (state_numbers r.state)

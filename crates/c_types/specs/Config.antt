@@ -1,11 +1,11 @@
 -- The settings from a host in C, as the library's own types. Definitions only.
 -- Every bit pattern has a meaning: an unknown tag becomes a value that its question refuses (star_search/specs/Claims.antt), so that the
 -- questions keep their order and the first no wins.
-use Rattle.std.specs.Prelude.{ℕ, cond, eqb, leb, Float}
+use Rattle.std.specs.Prelude.{ℕ, cond, eqb, leb, Float, None, Some}
 use Rattle.std.specs.Float.{nan}
 use Rattle.settings.specs.declared.tolerance.Tolerance.{Tolerance}
 use Rattle.settings.specs.declared.tolerance.Tolerance.TheVariants.{Given, Absent}
-use Rattle.undivided_run.specs.declared.state.Cap.{Cap}
+use Rattle.undivided_run.specs.Undivided.{Cap}
 use Rattle.search_feed.specs.declared.SearchConfig.{SearchConfig}
 use Rattle.c_types.specs.declared.structs.StarSettings.{StarSettings}
 
@@ -15,7 +15,7 @@ option_of tag x = cond (eqb tag 0) Absent (cond (eqb tag 1) (Given x) (Given nan
 
 -- The cap by its tag: 0 is absent, any other tag given.
 unfoldable pub cap_of : ℕ → ℕ → Cap
-cap_of tag most = cond (eqb tag 0) Cap.Absent (Cap.Given most)
+cap_of tag most = cond (eqb tag 0) None (Some most)
 
 -- The bins, or 0 where the cap's tag is neither 0 nor 1, which question 4 refuses.
 unfoldable pub bins_of : ℕ → ℕ → ℕ

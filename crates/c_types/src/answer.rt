@@ -1,9 +1,9 @@
 // Turns what a search returns into the plain numbers that a host in C sees.
 ghost use Rattle.std.specs.Prelude.{◌≡◌};
-ghost use Rattle.c_types.specs.Answer.{status_number, plain_numbers, at_numbers, state_numbers, candidate_numbers, used_state, answer_of};
+ghost use Rattle.c_types.specs.Answer.{status_number, plain_numbers, at_numbers, state_numbers, candidate_numbers, used_state, without_candidate, answer_of};
 
 use crate::structs::{StarAnswer, StarCandidate, StarState};
-use candidates::entry_tests::Candidate;
+use candidates::entry_tests::{Candidate, no_candidate};
 use pattern_search::{Answer, Searched};
 use undivided_run::state::{Phase, Position, State, Status};
 
@@ -22,12 +22,11 @@ fn status_number(s: Status) -> u32
 fn plain_numbers(phase: u32, status: u32, patterns: u64, reads: u64) -> StarState
     ensures { result ≡ plain_numbers phase status patterns reads }
 {
-    let four = [0u32; 4];
     StarState {
         phase,
         status,
         pass: 0,
-        four,
+        four: [0; 4],
         key: 0,
         probe: 0,
         reserved: 0,
@@ -41,12 +40,11 @@ fn at_numbers(p: Position, patterns: u64, reads: u64) -> StarState
     ensures { result ≡ at_numbers p patterns reads }
 {
     let q = p.four;
-    let four = [q.a, q.b, q.c, q.d];
     StarState {
         phase: 1,
         status: 0,
         pass: p.pass,
-        four,
+        four: [q.a, q.b, q.c, q.d],
         key: p.key,
         probe: p.probe,
         reserved: 0,
@@ -55,34 +53,33 @@ fn at_numbers(p: Position, patterns: u64, reads: u64) -> StarState
     }
 }
 
-// Returns a state as plain numbers.
-fn state_to_c(s: State) -> StarState
-    ensures { result ≡ state_numbers s }
-{
-    let phase = s.phase;
-    match phase {
-        Phase::Fresh => plain_numbers(0, 0, s.patterns, s.reads),
-        Phase::At(p) => at_numbers(p, s.patterns, s.reads),
-        Phase::Ended(t) => plain_numbers(2, status_number(t), s.patterns, s.reads),
+impl From<State> for StarState {
+    ghost from_gives = { λ s n. n ≡ state_numbers s };
+
+    // Returns a state as plain numbers.
+    fn from(s: State) -> StarState {
+        match s.phase {
+            Phase::Fresh => plain_numbers(0, 0, s.patterns, s.reads),
+            Phase::At(p) => at_numbers(p, s.patterns, s.reads),
+            Phase::Ended(t) => plain_numbers(2, status_number(t), s.patterns, s.reads),
+        }
     }
 }
 
-// Returns a candidate as plain numbers.
-fn candidate_to_c(c: Candidate) -> StarCandidate
-    ensures { result ≡ candidate_numbers c }
-{
-    let p = c.places;
-    let s = c.stars;
-    let place = [p[0].0, p[1].0, p[2].0, p[3].0];
-    let star = [s[0].0, s[1].0, s[2].0, s[3].0];
-    StarCandidate {
-        slot: c.slot,
-        pass: c.pass,
-        place,
-        star,
-        field: c.field,
-        rebuild: if c.rebuild { 1 } else { 0 },
-        reserved: 0,
+impl From<Candidate> for StarCandidate {
+    ghost from_gives = { λ c n. n ≡ candidate_numbers c };
+
+    // Returns a candidate as plain numbers.
+    fn from(c: Candidate) -> StarCandidate {
+        StarCandidate {
+            slot: c.slot,
+            pass: c.pass,
+            place: c.places.map(|p| p.0),
+            star: c.stars.map(|s| s.0),
+            field: c.field,
+            rebuild: u32::from(c.rebuild),
+            reserved: 0,
+        }
     }
 }
 
@@ -94,43 +91,33 @@ fn used_state(allowance: u64, raw: StarState, made: StarState) -> StarState
     if allowance == 0 { raw } else { made }
 }
 
+// Returns an answer that gives no candidate; the candidate's numbers are all zero.
+fn without_candidate(answer: u32, number: u32, state: StarState) -> StarAnswer
+    ensures { result ≡ without_candidate answer number state }
+{
+    StarAnswer {
+        answer,
+        number,
+        candidate: StarCandidate::from(no_candidate()),
+        state,
+    }
+}
+
 // Returns a call's answer as plain numbers. `raw` is the state received: a refused call gives it back as it came, and so does a call with
 // allowance 0 that answers "allowance used".
 pub fn answer_to_c(raw: StarState, allowance: u64, r: Searched) -> StarAnswer
     ensures { result ≡ answer_of raw allowance r }
 {
-    let said = r.answer;
-    let c = r.candidate;
-    let s = r.state;
-    let candidate = candidate_to_c(c);
-    let state = state_to_c(s);
-    match said {
-        Answer::Candidate => StarAnswer {
+    let state = StarState::from(r.state);
+    match r.answer {
+        Ok(Answer::Candidate(c)) => StarAnswer {
             answer: 0,
             number: 0,
-            candidate,
+            candidate: StarCandidate::from(c),
             state,
         },
-        Answer::AllowanceUsed => {
-            let left = used_state(allowance, raw, state);
-            StarAnswer {
-                answer: 1,
-                number: 0,
-                candidate,
-                state: left,
-            }
-        }
-        Answer::Ended(t) => StarAnswer {
-            answer: 2,
-            number: status_number(t),
-            candidate,
-            state,
-        },
-        Answer::Refused(n) => StarAnswer {
-            answer: 3,
-            number: n,
-            candidate,
-            state: raw,
-        },
+        Ok(Answer::AllowanceUsed) => { without_candidate(1, 0, used_state(allowance, raw, state)) }
+        Ok(Answer::Ended(t)) => without_candidate(2, status_number(t), state),
+        Err(question) => without_candidate(3, u32::from(question), raw),
     }
 }

@@ -6,7 +6,6 @@ ghost use Rattle.c_types.specs.Config.{option_of, cap_of, bins_of, config_of};
 use crate::structs::StarSettings;
 use search_feed::SearchConfig;
 use settings::tolerance::Tolerance;
-use undivided_run::state::Cap;
 
 // Returns an option from its tag and value. An unknown tag gives a NaN, which questions 4 and 12 refuse.
 pub fn option_of(tag: u32, x: f32) -> Tolerance
@@ -22,13 +21,13 @@ pub fn option_of(tag: u32, x: f32) -> Tolerance
 }
 
 // Returns the cap from its tag and value. `bins_of` takes care of an unknown tag.
-fn cap_of(tag: u32, most: u64) -> Cap
+fn cap_of(tag: u32, most: u64) -> Option<u64>
     ensures { result ≡ cap_of tag most }
 {
     if tag == 0 {
-        return Cap::Absent;
+        return None;
     }
-    Cap::Given(most)
+    Some(most)
 }
 
 // Returns the bins, or 0 where the cap's tag is unknown, which question 4 refuses. The cap itself has no value that a question would refuse.
@@ -41,22 +40,20 @@ fn bins_of(tag: u32, bins: u32) -> u32
     0
 }
 
-// Returns the settings.
-pub fn config_from_c(raw: StarSettings) -> SearchConfig
-    ensures { result ≡ config_of raw }
-{
-    let matching = option_of(raw.matching_given, raw.matching);
-    let fov = option_of(raw.fov_given, raw.fov);
-    let cap = cap_of(raw.cap_given, raw.cap);
-    let bins = bins_of(raw.cap_given, raw.bins);
-    SearchConfig {
-        bins,
-        checking: raw.checking,
-        error: raw.error,
-        radius: raw.radius,
-        matching,
-        fov,
-        cap,
-        patterns: raw.patterns,
+impl From<StarSettings> for SearchConfig {
+    ghost from_gives = { λ raw config. config ≡ config_of raw };
+
+    // Returns the settings.
+    fn from(raw: StarSettings) -> SearchConfig {
+        SearchConfig {
+            bins: bins_of(raw.cap_given, raw.bins),
+            checking: raw.checking,
+            error: raw.error,
+            radius: raw.radius,
+            matching: option_of(raw.matching_given, raw.matching),
+            fov: option_of(raw.fov_given, raw.fov),
+            cap: cap_of(raw.cap_given, raw.cap),
+            patterns: raw.patterns,
+        }
     }
 }

@@ -1,73 +1,100 @@
-// Turns what the sweep and completing return into the plain numbers that a host in C sees.
+// Turns what a slot read, the sweep and completing return into the plain numbers that a host in C sees.
 ghost use Rattle.std.specs.Prelude.{◌≡◌};
-ghost use Rattle.c_types.specs.Results.{swept_numbers, vector_numbers, four_vectors, completed_numbers};
+ghost use Rattle.c_types.specs.Results.{slot_result_numbers, swept_numbers, vector_numbers, four_vectors, refused_vectors, completed_numbers};
 
-use crate::structs::{StarCompleted, StarSwept, StarVector};
-use complete::completing::{Completed, Completion, Row};
-use fov_sweep::Swept;
+use crate::structs::{StarCompleted, StarSlot, StarSwept, StarVector};
+use complete::completing::Completed;
+use pattern_catalog::slot_read::Slot;
+use question::Question;
 
-// Returns the sweep's answer as plain numbers.
-pub fn sweep_to_c(s: Swept) -> StarSwept
-    ensures { result ≡ swept_numbers s }
-{
-    match s {
-        Swept::Values(n) => StarSwept {
-            answer: 0,
-            number: 0,
-            count: n,
-        },
-        Swept::Refused(n) => StarSwept {
-            answer: 1,
-            number: n,
-            count: 0,
-        },
+impl From<Result<Slot, Question>> for StarSlot {
+    ghost from_gives = { λ s n. n ≡ slot_result_numbers s };
+
+    // Returns what a slot holds as plain numbers.
+    fn from(slot: Result<Slot, Question>) -> StarSlot {
+        match slot {
+            Ok(Slot::Filled) => StarSlot {
+                answer: 0,
+                number: 0,
+            },
+            Ok(Slot::Empty) => StarSlot {
+                answer: 1,
+                number: 0,
+            },
+            Err(question) => StarSlot {
+                answer: 2,
+                number: u32::from(question),
+            },
+        }
     }
 }
 
-// Returns a row as a vector for C.
-fn vector_numbers(r: Row) -> StarVector
-    ensures { result ≡ vector_numbers r }
-{
-    let c = r.c;
-    StarVector {
-        x: c[0],
-        y: c[1],
-        z: c[2],
+impl From<Result<u64, Question>> for StarSwept {
+    ghost from_gives = { λ s n. n ≡ swept_numbers s };
+
+    // Returns the sweep's answer as plain numbers.
+    fn from(swept: Result<u64, Question>) -> StarSwept {
+        match swept {
+            Ok(count) => StarSwept {
+                answer: 0,
+                number: 0,
+                count,
+            },
+            Err(question) => StarSwept {
+                answer: 1,
+                number: u32::from(question),
+                count: 0,
+            },
+        }
     }
 }
 
-// Returns four rows as vectors for C.
-fn four_vectors(v: [Row; 4]) -> [StarVector; 4]
+// Returns a direction as a vector for C.
+fn vector_numbers(v: [f32; 3]) -> StarVector
+    ensures { result ≡ vector_numbers v }
+{
+    let [x, y, z] = v;
+    StarVector { x, y, z }
+}
+
+// Returns four directions as vectors for C.
+fn four_vectors(v: [[f32; 3]; 4]) -> [StarVector; 4]
     ensures { result ≡ four_vectors v }
 {
-    let a = vector_numbers(v[0]);
-    let b = vector_numbers(v[1]);
-    let c = vector_numbers(v[2]);
-    let d = vector_numbers(v[3]);
-    [a, b, c, d]
+    let [a, b, c, d] = v;
+    [
+        vector_numbers(a),
+        vector_numbers(b),
+        vector_numbers(c),
+        vector_numbers(d),
+    ]
 }
 
-// Returns the answer of completing as plain numbers.
-pub fn completed_to_c(c: Completed) -> StarCompleted
-    ensures { result ≡ completed_numbers c }
+// Returns the vectors that stand in a refusal: they are all zero.
+fn refused_vectors() -> [StarVector; 4]
+    ensures { result ≡ refused_vectors }
 {
-    let said = c.answer;
-    let v = c.image;
-    let w = c.stars;
-    let image = four_vectors(v);
-    let star = four_vectors(w);
-    match said {
-        Completion::Done => StarCompleted {
-            answer: 0,
-            number: 0,
-            image,
-            star,
-        },
-        Completion::Refused(n) => StarCompleted {
-            answer: 1,
-            number: n,
-            image,
-            star,
-        },
+    four_vectors([[0.0, 0.0, 0.0]; 4])
+}
+
+impl From<Result<Completed, Question>> for StarCompleted {
+    ghost from_gives = { λ c n. n ≡ completed_numbers c };
+
+    // Returns the answer of completing as plain numbers.
+    fn from(completed: Result<Completed, Question>) -> StarCompleted {
+        match completed {
+            Ok(vectors) => StarCompleted {
+                answer: 0,
+                number: 0,
+                image: four_vectors(vectors.image),
+                star: four_vectors(vectors.stars),
+            },
+            Err(question) => StarCompleted {
+                answer: 1,
+                number: u32::from(question),
+                image: refused_vectors(),
+                star: refused_vectors(),
+            },
+        }
     }
 }

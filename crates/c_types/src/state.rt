@@ -11,13 +11,8 @@ use undivided_run::state::{Phase, Position, State, Status};
 fn position_of(raw: StarState) -> Position
     ensures { result ≡ position_of raw }
 {
-    let q = raw.four;
-    let four = Combination {
-        a: q[0],
-        b: q[1],
-        c: q[2],
-        d: q[3],
-    };
+    let [a, b, c, d] = raw.four;
+    let four = Combination { a, b, c, d };
     Position {
         pass: raw.pass,
         four,
@@ -41,51 +36,34 @@ fn unknown_state() -> State
 fn ended_of(status: u32, patterns: u64, reads: u64) -> State
     ensures { result ≡ ended_of status patterns reads }
 {
-    if status == 0 {
-        return State {
-            phase: Phase::Ended(Status::TooFew),
-            patterns,
-            reads,
-        };
+    let how = match status {
+        0 => Status::TooFew,
+        1 => Status::NoMatch,
+        2 => Status::Timeout,
+        _ => return unknown_state(),
+    };
+    State {
+        phase: Phase::Ended(how),
+        patterns,
+        reads,
     }
-    if status == 1 {
-        return State {
-            phase: Phase::Ended(Status::NoMatch),
-            patterns,
-            reads,
-        };
-    }
-    if status == 2 {
-        return State {
-            phase: Phase::Ended(Status::Timeout),
-            patterns,
-            reads,
-        };
-    }
-    unknown_state()
 }
 
-// Returns the state by the number of its phase.
-pub fn state_from_c(raw: StarState) -> State
-    ensures { result ≡ state_of raw }
-{
-    if raw.phase == 0 {
-        return State {
-            phase: Phase::Fresh,
+impl From<StarState> for State {
+    ghost from_gives = { λ raw s. s ≡ state_of raw };
+
+    // Returns the state by the number of its phase.
+    fn from(raw: StarState) -> State {
+        let phase = match raw.phase {
+            0 => Phase::Fresh,
+            1 => Phase::At(position_of(raw)),
+            2 => return ended_of(raw.status, raw.patterns, raw.reads),
+            _ => return unknown_state(),
+        };
+        State {
+            phase,
             patterns: raw.patterns,
             reads: raw.reads,
-        };
+        }
     }
-    if raw.phase == 1 {
-        let p = position_of(raw);
-        return State {
-            phase: Phase::At(p),
-            patterns: raw.patterns,
-            reads: raw.reads,
-        };
-    }
-    if raw.phase == 2 {
-        return ended_of(raw.status, raw.patterns, raw.reads);
-    }
-    unknown_state()
 }

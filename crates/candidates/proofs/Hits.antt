@@ -11,14 +11,14 @@ use Rattle.pattern.specs.Edges.{edges_of, ratios_of}
 use Rattle.pattern_entry.specs.declared.entry.PatternEntry.{PatternEntry}
 use Rattle.settings.specs.declared.tolerance.Tolerance.{Tolerance}
 use Rattle.candidates.specs.declared.entry_tests.Image.{Image}
-use Rattle.candidates.specs.declared.entry_tests.Tested.TheVariants.{PassedOver, Hit}
+use Rattle.std.specs.Prelude.{None, Some}
 use Rattle.candidates.specs.StarVectors.{stars_of}
 use Rattle.candidates.specs.Comparisons.{fov_consistent, inside}
 use Rattle.candidates.specs.EntryTests.{measured_of, field_valid, test_of}
 use Rattle.candidates.specs.Claims.{Agrees, HitExactly}
 
--- An outcome `Hit` after four tests in a row means that all four hold.
-four_tests : (a b c d : Bool) (x f : Float) → cond a (cond b (cond c (cond d (Hit x) PassedOver) PassedOver) PassedOver) PassedOver ≡ Hit f
+-- An outcome `Some` after four tests in a row means that all four hold.
+four_tests : (a b c d : Bool) (x f : Float) → cond a (cond b (cond c (cond d (Some x) None) None) None) None ≡ Some f
     → (a ≡ true) × (b ≡ true) × (c ≡ true) × (d ≡ true) × (f ≡ x)
 four_tests true true true true x f h = (refl, refl, refl, refl, cc)
 four_tests true true true false x f h = let z : ◌≡◌ {A = ℕ} 0 1 = cc in absurd (omega arith)
@@ -27,7 +27,7 @@ four_tests true false c d x f h = let z : ◌≡◌ {A = ℕ} 0 1 = cc in absurd
 four_tests false b c d x f h = let z : ◌≡◌ {A = ℕ} 0 1 = cc in absurd (omega arith)
 
 module _ (entry : PatternEntry) (mark : ℕ) (stars : List Float) (image : Image) (e field : Float) (error : Tolerance) (f : Float) where
-  hit_agrees : test_of entry mark stars image e field error ≡ Hit f
+  hit_agrees : test_of entry mark stars image e field error ≡ Some f
       → Agrees entry mark stars image e field error × (f ≡ measured_of (edges_of (stars_of stars entry.stars)) image.edge field)
   unfolding test_of
   hit_agrees h =
@@ -39,7 +39,7 @@ module _ (entry : PatternEntry) (mark : ℕ) (stars : List Float) (image : Image
       (record { mark_agrees = eqb-true entry.mark mark t.0; ratios_inside = t.2; field_near = t.1; valid_field = t.3 }, t.4)
 
   agrees_hit : Agrees entry mark stars image e field error → f ≡ measured_of (edges_of (stars_of stars entry.stars)) image.edge field
-      → test_of entry mark stars image e field error ≡ Hit f
+      → test_of entry mark stars image e field error ≡ Some f
   unfolding test_of
   agrees_hit a h = rw (eq-eqb entry.mark mark a.mark_agrees, a.field_near, a.ratios_inside, a.valid_field, h)
 

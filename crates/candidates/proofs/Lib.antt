@@ -3,3 +3,4 @@ pub mod FieldFits
 pub mod EntryTests
 pub mod Hits
 pub mod StarsInside
+pub mod Inside

@@ -1,5 +1,5 @@
 -- What other crates rely on, written as statements. proofs/ has a proof of each one, under the name given after it. Definitions only.
-use Rattle.std.specs.Prelude.{◌≡◌, ℕ, ◌↔◌, true, List, Float}
+use Rattle.std.specs.Prelude.{◌≡◌, ℕ, ◌↔◌, true, List, Float, Some}
 use Rattle.pattern.specs.Edges.{edges_of, ratios_of}
 use Rattle.pattern_entry.specs.declared.entry.PatternEntry.{PatternEntry}
 use Rattle.pattern_entry.specs.Entry.{entry_read}
@@ -10,7 +10,6 @@ use Rattle.candidates.specs.Comparisons.{fov_consistent, inside}
 use Rattle.candidates.specs.EntryTests.{measured_of, field_valid, test_of}
 use Rattle.candidates.specs.StarsInside.{StarsInside}
 use Rattle.candidates.specs.declared.entry_tests.Image.{Image}
-use Rattle.candidates.specs.declared.entry_tests.Tested.TheVariants.{Hit}
 
 -- The four conditions of the sentence "A read gives a candidate exactly when .. its 16-bit mark agrees, all five ratios lie strictly inside the
 -- tolerance and both field-of-view tests pass." That the slot is filled is said by `GivesExactly` of pattern_search.
@@ -23,7 +22,7 @@ pub record Agrees (entry : PatternEntry) (mark : ℕ) (stars : List Float) (imag
 -- An entry gives a candidate exactly when the four conditions hold, and the candidate's field of view is the measured one: `hit_exactly`.
 abbrev pub HitExactly : Type 0
 HitExactly = (entry : PatternEntry) (mark : ℕ) (stars : List Float) (image : Image) (e field : Float) (error : Tolerance) (f : Float)
-    → (test_of entry mark stars image e field error ≡ Hit f)
+    → (test_of entry mark stars image e field error ≡ Some f)
     ↔ (Agrees entry mark stars image e field error × (f ≡ measured_of (edges_of (stars_of stars entry.stars)) image.edge field))
 
 -- A valid entry's stars lie inside the star slice: `valid_inside`.

@@ -36,19 +36,7 @@ fn inside_one(ratio: f32, e: f32, x: f32) -> bool
 pub fn inside(ratios: [f32; 5], e: f32, x: [f32; 5]) -> bool
     ensures { result ≡ inside ratios e x }
 {
-    if !inside_one(ratios[0], e, x[0]) {
-        return false;
-    }
-    if !inside_one(ratios[1], e, x[1]) {
-        return false;
-    }
-    if !inside_one(ratios[2], e, x[2]) {
-        return false;
-    }
-    if !inside_one(ratios[3], e, x[3]) {
-        return false;
-    }
-    inside_one(ratios[4], e, x[4])
+    ratios.iter().zip(&x).all(|(r, x)| inside_one(*r, e, *x))
 }
 
 // The rebuild mark: returns whether |measured / field − 1| is above a quarter of the match radius, `field` being the pass's field of view.

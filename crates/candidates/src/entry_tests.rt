@@ -37,13 +37,6 @@ pub struct Candidate {
     pub rebuild: bool,
 }
 
-// The outcome of an entry's tests: the entry is passed over, or it gives a candidate with this measured field of view.
-#[derive(Clone, Copy)]
-pub enum Tested {
-    PassedOver,
-    Hit(f32),
-}
-
 // Returns the candidate that stands in an answer which gives none: all its numbers are zero.
 pub fn no_candidate() -> Candidate
     ensures { result ≡ no_candidate }
@@ -60,7 +53,8 @@ pub fn no_candidate() -> Candidate
     }
 }
 
-// Tests an entry: first its mark, then the field of its stored edge, the ratios of its stars, and the measured field. `mark` is the mark of
+// Tests an entry: first its mark, then the field of its stored edge, the ratios of its stars, and the measured field. Returns the measured field
+// of an entry that gives a candidate, and none for one that is passed over. `mark` is the mark of
 // the key whose chain is read, `e` the tolerance, `field` the pass's field of view and `error` the field-of-view error.
 pub fn test_entry(
     entry: PatternEntry,
@@ -70,28 +64,28 @@ pub fn test_entry(
     e: f32,
     field: f32,
     error: Tolerance,
-) -> Tested
+) -> Option<f32>
     requires { StarsInside stars.now entry.stars }
     ensures { result ≡ test_of entry mark stars.now image e field error }
 {
     if entry.mark != mark {
-        return Tested::PassedOver;
+        return None;
     }
     let edge = image.edge;
     let stored = entry.edge;
     if !fov_consistent(error, stored, edge, field) {
-        return Tested::PassedOver;
+        return None;
     }
     let four = entry.stars;
     let angles = pattern::edges::compute_sorted_edge_angles(star_vectors(stars, four));
     let ratios = image.ratios;
     if !inside(ratios, e, pattern::edges::compute_edge_ratios(angles)) {
-        return Tested::PassedOver;
+        return None;
     }
     let largest = angles[5];
     let measured = largest / edge * field;
     if !settings::pass_limits::field_fits(measured) {
-        return Tested::PassedOver;
+        return None;
     }
-    Tested::Hit(measured)
+    Some(measured)
 }

@@ -19,9 +19,10 @@ pub fn star_vectors(stars: &[f32], four: [StarIndex; 4]) -> [[f32; 3]; 4]
     requires { StarsInside stars.now four }
     ensures { result ≡ stars_of stars.now four }
 {
-    let a = star_vector(stars, four[0]);
-    let b = star_vector(stars, four[1]);
-    let c = star_vector(stars, four[2]);
-    let d = star_vector(stars, four[3]);
-    [a, b, c, d]
+    four.map(
+        |i: StarIndex| -> [f32; 3]
+            requires { i.0 * 3 + 2 < length stars.now }
+            ensures { result ≡ star_of stars.entry.now i }
+        { star_vector(stars, i) },
+    )
 }

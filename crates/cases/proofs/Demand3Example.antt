@@ -3,7 +3,7 @@ use mathlib.Core.Path.{◌≡◌, refl, sym, ◌∙◌, ap}
 use Prim.Native.Nat.{ℕ}
 use native.Mathlib.Omega.{arith}
 use mathlib.Core.List.{List, [], ◌∷◌, map}
-use mathlib.Core.Option.{Option, none, some}
+use Rattle.std.specs.Prelude.{Option, None, Some}
 use lib.ListN.{take}
 use lib.Ieee.{le, of_bits, mul, div, of_int, neg}
 use Rattle.numeric.specs.Magnitude.{magnitude_of}
@@ -37,15 +37,15 @@ opens_sample : Opens sample
 unfolding opening table_fits stars_fit index_right bit_at ones_in place every unit star_valid magnitude_of bytes_at in_section entry_valid le
 opens_sample = refl
 
-seven_sample : first_seven frame 2 sample.words sample.stars ≡ none
+seven_sample : first_seven frame 2 sample.words sample.stars ≡ None
 unfolding first_seven centroids_fit coordinate_fits coordinates_fit all_below among none_twice order_fits magnitude_of tolerance_of narrow_fits settings_fit field_fits scale_fits cosine_fits pass_fits pass_at first_fit passes_fit table_fits stars_fit le of_bits mul div of_int neg
 seven_sample = refl
 
-one_refused : (st : State) → refusal_of st (lent_by second) ≡ some 1
+one_refused : (st : State) → refusal_of st (lent_by second) ≡ Some 1
 unfolding refusal_of lent_of first_no first_seven centroids_fit cases
 one_refused st = refl
 
-not_some : {n : ℕ} → ◌≡◌ {A = Option ℕ} (some n) none → ⊥
+not_some : {n : ℕ} → ◌≡◌ {A = Option ℕ} (Some n) None → ⊥
 not_some e = let z : ◌≡◌ {A = ℕ} 0 1 = cc (e) in absurd (omega arith)
 
 two_same : AllSame sample start (first ∷ second ∷ [])
@@ -55,14 +55,14 @@ same_sample : AllSame sample start calls
 same_sample = (two_same.0, (two_same.1.0, (λ _. refl, tt)))
 
 -- ---- Which calls are refused.
-taken : (gs : List Given) → AllSame sample start gs → (a : ℕ) → refusal_of (last_state start gs) (lent_by (record { lent_data = sample; allowance = a })) ≡ none
+taken : (gs : List Given) → AllSame sample start gs → (a : ℕ) → refusal_of (last_state start gs) (lent_by (record { lent_data = sample; allowance = a })) ≡ None
 taken gs h a = never_refused sample opens_sample seven_sample gs h (record { lent_data = sample; allowance = a }) refl
 
-first_none : refusal_of start (lent_by first) ≡ none
+first_none : refusal_of start (lent_by first) ≡ None
 unfolding last_state
 first_none = taken [] tt 1
 
-third_none : refusal_of (last_state start (first ∷ second ∷ [])) (lent_by third) ≡ none
+third_none : refusal_of (last_state start (first ∷ second ∷ [])) (lent_by third) ≡ None
 third_none = taken (first ∷ second ∷ []) two_same 7
 
 fed : feeds start (map lent_by calls) ≡ allowed 1 ∷ refusal 1 ∷ allowed 7 ∷ []
@@ -70,7 +70,7 @@ unfolding feeds fed_for last_state lent_of
 fed = rw (first_none, one_refused _, third_none)
 
 -- ---- The answers, and the state after the list.
-along_run : on_run sample calls ≡ (candidate given ∷ refused 1 ∷ over NoMatch ∷ [], record { taken = 5; final = some NoMatch })
+along_run : on_run sample calls ≡ (candidate given ∷ refused 1 ∷ over NoMatch ∷ [], record { taken = 5; final = Some NoMatch })
 along_run = rw fed calls_are
 
 one_tried : tried (take 5 (run sample).reads) ≡ 1

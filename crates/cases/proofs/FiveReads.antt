@@ -3,7 +3,7 @@ use mathlib.Core.Path.{◌≡◌, refl, ◌∙◌, ap}
 use Prim.Native.Nat.{ℕ, ◌+◌, ◌*◌, ◌%◌}
 use mathlib.Core.Bool.{Bool, true, false}
 use mathlib.Core.List.{List, [], ◌∷◌}
-use mathlib.Core.Option.{Option, none, some}
+use Rattle.std.specs.Prelude.{Option, None, Some, Float}
 use lib.ListN.{length, get_or}
 use lib.Ieee.{of_bits, add, sub, mul, div, lt, of_int, to_unsigned}
 use Rattle.numeric.specs.Magnitude.{magnitude_of}
@@ -21,11 +21,9 @@ use Rattle.pattern_entry.specs.Entry.{bytes_at}
 use Rattle.candidates.specs.StarVectors.{star_of, stars_of}
 use Rattle.candidates.specs.Comparisons.{fov_consistent, inside_one, inside, rebuild_of}
 use Rattle.candidates.specs.EntryTests.{measured_of, field_valid, test_of}
-use Rattle.candidates.specs.declared.entry_tests.Tested.{Tested}
-use Rattle.candidates.specs.declared.entry_tests.Tested.TheVariants.{PassedOver, Hit}
 use Rattle.candidates.specs.declared.entry_tests.Candidate.{Candidate}
 use Rattle.undivided_run.specs.declared.state.Position.{Position}
-use Rattle.undivided_run.specs.declared.state.Cap.TheVariants.{Absent as NoCap}
+use Rattle.std.specs.Prelude.{None as NoCap}
 use Rattle.undivided_run.specs.declared.state.Status.TheVariants.{NoMatch}
 use Rattle.undivided_run.specs.Undivided.{Feed, reached, is_zero, is_some, cases, slot_of, filled, gives, chain, reads_of, ended, ◌before◌, checked, combinations, passes_from, undivided}
 use Rattle.undivided_run.specs.Calls.{candidate, over, refused, allowed, refusal, fresh, final_of, serve, machine, calls}
@@ -51,20 +49,20 @@ unfolding slot_at hash_in
 at_slot k c = rw (image_is, keys_are)
 
 -- ---- What the two slots hold.
-entry_0 : entry_at sample 0 ≡ some sample.packed
+entry_0 : entry_at sample 0 ≡ Some sample.packed
 unfolding entry_at bit_at ones_in place bytes_at
 entry_0 = refl
 
-entry_1 : entry_at sample 1 ≡ none
+entry_1 : entry_at sample 1 ≡ None
 unfolding entry_at bit_at ones_in place bytes_at
 entry_1 = refl
 
 -- ---- The entry's tests against the image.
-first_hit : tested_at sample (at 0 0) sample.packed ≡ Hit one32
+first_hit : tested_at sample (at 0 0) sample.packed ≡ Some one32
 unfolding tested_at test_of hash_in hash_of mark_of stars_of star_of fov_consistent inside inside_one measured_of field_valid tolerance_of pass_at add sub mul div lt of_bits of_int
 first_hit = rw (image_is, keys_are, ratios_are, edges_are)
 
-last_over : tested_at sample (at 2 0) sample.packed ≡ PassedOver
+last_over : tested_at sample (at 2 0) sample.packed ≡ None
 unfolding tested_at test_of hash_in hash_of mark_of
 last_over = rw (image_is, keys_are)
 
@@ -74,17 +72,17 @@ F = feed sample
 
 -- The candidate that a slot's entry gives at a read, where there is an entry.
 abbrev from : Position → Option (List ℕ) → Option Candidate
-from r o = cases o none λ e. if_hit sample r e (tested_at sample r e)
+from r o = cases o None λ e. if_hit sample r e (tested_at sample r e)
 
 gives_at : (r : Position) (x : ℕ) → slot_at sample r ≡ x → gives F r ≡ from r (entry_at sample x)
 unfolding gives slot_of feed slot_at
 gives_at r x e = ap (λ n. from r (entry_at sample n)) e
 
-at_filled : (r : Position) (t : Tested) → slot_at sample r ≡ 0 → tested_at sample r sample.packed ≡ t → gives F r ≡ if_hit sample r sample.packed t
+at_filled : (r : Position) (t : Option Float) → slot_at sample r ≡ 0 → tested_at sample r sample.packed ≡ t → gives F r ≡ if_hit sample r sample.packed t
 unfolding cases
 at_filled r t e f = gives_at r 0 e ∙ ap (from r) entry_0 ∙ ap (if_hit sample r sample.packed) f
 
-at_empty : (r : Position) → slot_at sample r ≡ 1 → gives F r ≡ none
+at_empty : (r : Position) → slot_at sample r ≡ 1 → gives F r ≡ None
 unfolding cases
 at_empty r e = gives_at r 1 e ∙ ap (from r) entry_1
 
@@ -134,13 +132,13 @@ run_is =
     (ap length kept_all)
 
 -- ---- The calls on this run.
-module _ {C : Type 0} (g : Position → Option C) (x : C) (a : g (at 0 0) ≡ some x) (b : g (at 0 1) ≡ none) (c : g (at 1 0) ≡ none) (d : g (at 2 0) ≡ none) (e : g (at 2 1) ≡ none) where
-  pub on_five : calls (machine g (record { reads = five; status = NoMatch })) fresh (allowed 1 ∷ refusal 1 ∷ allowed 7 ∷ []) ≡ (candidate x ∷ refused 1 ∷ over NoMatch ∷ [], record { taken = 5; final = some NoMatch })
+module _ {C : Type 0} (g : Position → Option C) (x : C) (a : g (at 0 0) ≡ Some x) (b : g (at 0 1) ≡ None) (c : g (at 1 0) ≡ None) (d : g (at 2 0) ≡ None) (e : g (at 2 1) ≡ None) where
+  pub on_five : calls (machine g (record { reads = five; status = NoMatch })) fresh (allowed 1 ∷ refusal 1 ∷ allowed 7 ∷ []) ≡ (candidate x ∷ refused 1 ∷ over NoMatch ∷ [], record { taken = 5; final = Some NoMatch })
   unfolding calls machine serve fresh final_of cases
   on_five = rw (a, b, c, d, e)
 
-pub calls_are : calls (machine (gives F) (undivided F NoCap)) fresh (allowed 1 ∷ refusal 1 ∷ allowed 7 ∷ []) ≡ (candidate given ∷ refused 1 ∷ over NoMatch ∷ [], record { taken = 5; final = some NoMatch })
+pub calls_are : calls (machine (gives F) (undivided F NoCap)) fresh (allowed 1 ∷ refusal 1 ∷ allowed 7 ∷ []) ≡ (candidate given ∷ refused 1 ∷ over NoMatch ∷ [], record { taken = 5; final = Some NoMatch })
 unfolding hash_of home_of
 calls_are =
     rw run_is
-    (on_five (gives F) given (at_filled (at 0 0) (Hit one32) (at_slot 0 0) first_hit ∙ ap some given_is) (at_empty (at 0 1) (at_slot 0 1)) (at_empty (at 1 0) (at_slot 1 0)) (at_filled (at 2 0) PassedOver (at_slot 2 0) last_over) (at_empty (at 2 1) (at_slot 2 1)))
+    (on_five (gives F) given (at_filled (at 0 0) (Some one32) (at_slot 0 0) first_hit ∙ ap Some given_is) (at_empty (at 0 1) (at_slot 0 1)) (at_empty (at 1 0) (at_slot 1 0)) (at_filled (at 2 0) None (at_slot 2 0) last_over) (at_empty (at 2 1) (at_slot 2 1)))

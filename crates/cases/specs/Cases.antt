@@ -1,6 +1,6 @@
 -- Document 01, "Cases": the eleven bulleted cases as one table, and what each row of it states. Definitions only.
 use Rattle.std.specs.Prelude.{◌≡◌, ℕ, suc, ◌*◌, true, false, List, [], ◌∷◌, map, length, replicate, Float}
-use Rattle.std.proofs.Math.Option.{none, some}
+use Rattle.std.specs.Prelude.{None, Some}
 use Rattle.std.specs.Float.{binary32}
 use Rattle.std.specs.Float.Ieee.{of_bits, round}
 use Rattle.square_root.specs.Root.{root_of}
@@ -58,8 +58,8 @@ filled_table first count =
       home = λ i q k. first;
       slots = count;
       patterns = 1;
-      entry = λ x. some x;
-      test = λ r x. none;
+      entry = λ x. Some x;
+      test = λ r x. None;
       valid = λ x. true;
     }
 

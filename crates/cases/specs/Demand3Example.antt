@@ -1,12 +1,12 @@
 -- A small example of demand 3: a table of two slots, one of them filled, a frame of four spots, and three calls, one of which is lent something
 -- that is refused. Definitions only.
 use Rattle.std.specs.Prelude.{◌≡◌, false, List, [], ◌∷◌, negsuc, Float}
-use Rattle.std.proofs.Math.Option.{none, some}
+use Rattle.std.specs.Prelude.{None, Some}
 use Rattle.std.specs.Float.{fin}
 use Rattle.numeric.specs.Value.{zero32, one32}
 use Rattle.settings.specs.declared.tolerance.Tolerance.TheVariants.{Absent as NoOption}
 use Rattle.candidates.specs.declared.entry_tests.Candidate.{Candidate}
-use Rattle.undivided_run.specs.declared.state.Cap.TheVariants.{Absent as NoCap}
+use Rattle.std.specs.Prelude.{None as NoCap}
 use Rattle.undivided_run.specs.declared.state.Phase.TheVariants.{Ended}
 use Rattle.undivided_run.specs.declared.state.State.{State}
 use Rattle.undivided_run.specs.declared.state.Status.TheVariants.{NoMatch}
@@ -105,16 +105,16 @@ pub record Demand3Example : Type 0 where
   -- The table passes the opening check.
   pub opens : Opens sample
   -- The frame passes questions 1 to 7.
-  pub seven : first_seven frame 2 sample.words sample.stars ≡ none
+  pub seven : first_seven frame 2 sample.words sample.stars ≡ None
   -- The calls that aren't refused are all lent the same data.
   pub same : AllSame sample start calls
   -- Demand 3 applies to this list of calls.
   pub listed_here : Listed sample calls
   -- The second call is refused with 1. The first, the third and a call after the list are not refused.
-  pub first_taken : refusal_of start (lent_by first) ≡ none
-  pub refused_one : (st : State) → refusal_of st (lent_by second) ≡ some 1
-  pub third_taken : refusal_of (last_state start (first ∷ second ∷ [])) (lent_by third) ≡ none
-  pub goes_on : refusal_of (last_state start calls) (lent_by first) ≡ none
+  pub first_taken : refusal_of start (lent_by first) ≡ None
+  pub refused_one : (st : State) → refusal_of st (lent_by second) ≡ Some 1
+  pub third_taken : refusal_of (last_state start (first ∷ second ∷ [])) (lent_by third) ≡ None
+  pub goes_on : refusal_of (last_state start calls) (lent_by first) ≡ None
   -- The answers are: a candidate, refused with 1, ended with NoMatch.
   pub answered : answers_of (replies start calls) ≡ candidate given ∷ refused 1 ∷ over NoMatch ∷ []
   -- The state after the list has ended and counts 1 combination and 5 reads.

@@ -6,7 +6,7 @@ use native.Mathlib.Nat.{max-eq_left}
 use native.Mathlib.Decide.{dec_le}
 use mathlib.Core.List.{List, [], ◌∷◌, ◌++◌}
 use mathlib.Core.Bool.{cond}
-use mathlib.Core.Option.{Option, none, some}
+use Rattle.std.specs.Prelude.{Option, None, Some}
 use borrow.Author.Tests.{le-leb, lt-leb, eq-eqb, ne_eqb}
 use lib.Dec.{leb, eqb}
 use Rattle.combinations.specs.Lists.{each, span, upto, Follows}
@@ -17,7 +17,7 @@ use Rattle.combinations.specs.Claims.{EnumeratesCombinations}
 -- From o the successor gives exactly the elements of the list, in order, and then e.
 abbrev FollowsTo : {A : Type 0} → (A → Option A) → Option A → List A → Option A → Type 0
 FollowsTo next o [] e = o ≡ e
-FollowsTo next o (x ∷ xs) e = (o ≡ some x) × FollowsTo next (next x) xs e
+FollowsTo next o (x ∷ xs) e = (o ≡ Some x) × FollowsTo next (next x) xs e
 
 module _ {A : Type 0} (next : A → Option A) where
   joined : (xs ys : List A) (o m e : Option A) → FollowsTo next o xs m → FollowsTo next m ys e → FollowsTo next o (xs ++ ys) e
@@ -63,7 +63,7 @@ module _ (n s : ℕ) where
     thirds : ℕ → List Combination
     thirds c = each (upto (suc c) n) λ d. cond (eqb (a + b + c + d) s) (four a b c d ∷ []) []
 
-    from_c_hit : (c : ℕ) → s + 1 - (a + b + n) ≤ c → a + b + 2 * c + 1 ≤ s → from_c n s a b c ≡ some (four a b c (s - (a + b + c)))
+    from_c_hit : (c : ℕ) → s + 1 - (a + b + n) ≤ c → a + b + 2 * c + 1 ≤ s → from_c n s a b c ≡ Some (four a b c (s - (a + b + c)))
     unfolding from_c with_c
     from_c_hit c p q = rw (max-eq_left p) (cond_yes _ _ _ _ q)
 
@@ -177,7 +177,7 @@ module _ (n : ℕ) where
       let u : max s 6 ≡ max (suc s) 6 = omega arith in
       rw u
 
-  from_sum_miss : (s : ℕ) → 4 * n < max s 6 + 10 → from_sum n s ≡ none
+  from_sum_miss : (s : ℕ) → 4 * n < max s 6 + 10 → from_sum n s ≡ None
   unfolding from_sum
   from_sum_miss s p = cond_no _ _ _ _ p
 
@@ -203,7 +203,7 @@ module _ (n : ℕ) where
       rw (s_start s, ← from_a_miss n s (0 + (n - 0)) (omega arith))
       (stacked (next_combination n) (from_a n s) (firsts n s) (a_layer n s) (n - 0) 0)
 
-ends_none : {A : Type 0} (next : A → Option A) (xs : List A) (o e : Option A) → e ≡ none → FollowsTo next o xs e → Follows next o xs
+ends_none : {A : Type 0} (next : A → Option A) (xs : List A) (o e : Option A) → e ≡ None → FollowsTo next o xs e → Follows next o xs
 ends_none next [] o e z h = h ∙ z
 ends_none next (x ∷ xs) o e z h = (h.0, ends_none next xs (next x) e z h.1)
 

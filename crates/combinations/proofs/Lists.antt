@@ -6,7 +6,7 @@ use native.Mathlib.Omega.{arith}
 use native.Mathlib.Nat.{suc-mul}
 use native.Mathlib.Decide.{dec_le}
 use mathlib.Core.List.{List, [], ◌∷◌, ◌++◌, append_assoc}
-use mathlib.Core.Option.{Option, some}
+use Rattle.std.specs.Prelude.{Option, Some}
 use lib.ListN.{length, take, length-append}
 use Rattle.combinations.specs.Lists.{each, span, upto, All, Ordered, In, Follows, first_of}
 
@@ -104,7 +104,7 @@ pub follows_is_first : {A : Type 0} (next : A → Option A) (xs : List A) (o : O
 follows_is_first next [] o h = h
 follows_is_first next (x ∷ xs) o h = h.0
 
-pub follows_first : {A : Type 0} (P : A → Type 0) (next : A → Option A) (xs : List A) (o : Option A) (x : A) → Follows next o xs → All P xs → o ≡ some x → P x
+pub follows_first : {A : Type 0} (P : A → Type 0) (next : A → Option A) (xs : List A) (o : Option A) (x : A) → Follows next o xs → All P xs → o ≡ Some x → P x
 follows_first P next [] o x f h e = absurd (let z : ◌≡◌ {A = ℕ} 0 1 = cc in omega arith)
 follows_first P next (y ∷ xs) o x f h e = let z : y ≡ x = cc f.0 in subst P z h.0
 

@@ -3,7 +3,7 @@
 use mathlib.Core.Path.{◌≡◌, subst}
 use Prim.Native.Nat.{ℕ, suc, ◌+◌, ◌-◌, ◌*◌, ◌≤◌, ◌<◌, max}
 use native.Mathlib.Omega.{arith}
-use mathlib.Core.Option.{some}
+use Rattle.std.specs.Prelude.{Some}
 use borrow.Author.Tests.{le-leb, lt-leb}
 use Rattle.combinations.specs.Lists.{All, Follows}
 use Rattle.combinations.specs.Combinations.{Combination, Rising, combination_list, sum}
@@ -18,10 +18,10 @@ next_is_next n before q after e =
     follows_is_first (next_combination n) after (next_combination n q)
     (follows_mid (next_combination n) before q after (first_combination n) (subst (Follows (next_combination n) (first_combination n)) e (enumerates_combinations n)))
 
-pub first_rising : (n : ℕ) (q : Combination) → first_combination n ≡ some q → Rising n q
+pub first_rising : (n : ℕ) (q : Combination) → first_combination n ≡ Some q → Rising n q
 first_rising n q e = follows_first (Rising n) (next_combination n) (combination_list n) (first_combination n) q (enumerates_combinations n) (combinations_rise n) e
 
-pub next_rising : (n : ℕ) (q p : Combination) → Rising n q → next_combination n q ≡ some p → Rising n p
+pub next_rising : (n : ℕ) (q p : Combination) → Rising n q → next_combination n q ≡ Some p → Rising n p
 next_rising n q p r e =
     let m = combinations_all n q r in
     follows_first (Rising n) (next_combination n) m.1 (next_combination n q) p
@@ -35,7 +35,7 @@ module _ (n : ℕ) (q : Combination) (r : Rising n q) where
   third = omega (arith, r.cd, r.dn)
 
   -- The third position goes up and the fourth down, where they stay apart.
-  pub next_within : q.c + 2 < q.d → next_combination n q ≡ some (record { a = q.a; b = q.b; c = q.c + 1; d = q.d - 1 })
+  pub next_within : q.c + 2 < q.d → next_combination n q ≡ Some (record { a = q.a; b = q.b; c = q.c + 1; d = q.d - 1 })
   unfolding next_combination from_c with_c sum
   next_within h =
       let d : q.a + q.b + q.c + q.d - (q.a + q.b + (q.c + 1)) ≡ q.d - 1 = omega arith in

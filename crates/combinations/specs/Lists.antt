@@ -1,6 +1,6 @@
 -- Lists that are put together from one list for each element, and properties of a list's elements. Definitions only.
 use Rattle.std.specs.Prelude.{◌≡◌, ℕ, zero, suc, ◌-◌, List, [], ◌∷◌, ◌++◌}
-use Rattle.std.proofs.Math.Option.{Option, none, some}
+use Rattle.std.specs.Prelude.{Option, None, Some}
 
 -- The lists that f gives for the elements of a list, in order, joined to one list.
 unfoldable pub each : {A B : Type 0} → List A → (A → List B) → List B
@@ -32,10 +32,10 @@ In {A} x xs = (pre : List A) × (post : List A) × (xs ≡ pre ++ x ∷ post)
 
 -- The first element of a list, where there is one.
 abbrev pub first_of : {A : Type 0} → List A → Option A
-first_of [] = none
-first_of (x ∷ xs) = some x
+first_of [] = None
+first_of (x ∷ xs) = Some x
 
 -- A successor enumerates a list: from o on it gives exactly these elements, in order, and then nothing.
 abbrev pub Follows : {A : Type 0} → (A → Option A) → Option A → List A → Type 0
-Follows next o [] = o ≡ none
-Follows next o (x ∷ xs) = (o ≡ some x) × Follows next (next x) xs
+Follows next o [] = o ≡ None
+Follows next o (x ∷ xs) = (o ≡ Some x) × Follows next (next x) xs

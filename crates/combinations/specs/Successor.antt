@@ -1,10 +1,8 @@
 -- ".. the next combination worked out from the present one." `EnumeratesCombinations` of Claims.antt says that this enumerates the list of
 -- combinations. A difference that would be below 0 is 0. Definitions only.
 use Rattle.std.specs.Prelude.{ℕ, suc, ◌+◌, ◌-◌, ◌*◌, max, cond, leb}
-use Rattle.std.proofs.Math.Option.{Option, none, some}
+use Rattle.std.specs.Prelude.{Option, None, Some}
 use Rattle.combinations.specs.Combinations.{Combination, sum}
-use Rattle.combinations.specs.declared.NextCombination.{NextCombination}
-use Rattle.combinations.specs.declared.NextCombination.TheVariants.{Next, Nothing}
 
 -- Of the combinations below n with the sum s that begin with a and b, the first whose third position is at least c, where there is one.
 -- The fourth is s - (a + b + x), which is below n from the third x = s + 1 - (a + b + n) on.
@@ -29,22 +27,22 @@ with_a n s a =
 
 -- The first combination below n whose sum is s or more. The least sum is 0 + 1 + 2 + 3, the largest is 4 n - (1 + 2 + 3 + 4).
 unfoldable pub from_sum : ℕ → ℕ → Option Combination
-from_sum n s = cond (leb (max s 6 + 10) (4 * n)) (some (with_a n (max s 6) 0)) none
+from_sum n s = cond (leb (max s 6 + 10) (4 * n)) (Some (with_a n (max s 6) 0)) None
 
 -- The first combination with the sum s whose first position is at least a, or else the first with a larger sum. There is one with the sum s
 -- where the least sum with that first position, the other positions following one by one, is at most s.
 unfoldable pub from_a : ℕ → ℕ → ℕ → Option Combination
-from_a n s a = cond (leb (4 * max a (s + 6 - 3 * n) + 6) s) (some (with_a n s a)) (from_sum n (suc s))
+from_a n s a = cond (leb (4 * max a (s + 6 - 3 * n) + 6) s) (Some (with_a n s a)) (from_sum n (suc s))
 
 -- The first combination with the sum s that begins with a and whose second position is at least b, or else what `from_a` gives for a + 1.
 -- There is one that begins with a where the least sum with that second position is at most s.
 unfoldable pub from_b : ℕ → ℕ → ℕ → ℕ → Option Combination
-from_b n s a b = cond (leb (a + 3 * max b (s + 3 - (a + 2 * n)) + 3) s) (some (with_b n s a b)) (from_a n s (suc a))
+from_b n s a b = cond (leb (a + 3 * max b (s + 3 - (a + 2 * n)) + 3) s) (Some (with_b n s a b)) (from_a n s (suc a))
 
 -- The first combination with the sum s that begins with a and b and whose third position is at least c, or else what `from_b` gives for b + 1.
 -- There is one that begins with a and b where the least sum with that third position is at most s.
 unfoldable pub from_c : ℕ → ℕ → ℕ → ℕ → ℕ → Option Combination
-from_c n s a b c = cond (leb (a + b + 2 * max c (s + 1 - (a + b + n)) + 1) s) (some (with_c n s a b c)) (from_b n s a (suc b))
+from_c n s a b c = cond (leb (a + b + 2 * max c (s + 1 - (a + b + n)) + 1) s) (Some (with_c n s a b c)) (from_b n s a (suc b))
 
 -- The first combination below n, where there is one.
 unfoldable pub first_combination : ℕ → Option Combination
@@ -53,8 +51,3 @@ first_combination n = from_sum n 0
 -- The combination after q, where there is one.
 unfoldable pub next_combination : ℕ → Combination → Option Combination
 next_combination n q = from_c n (sum q) q.a q.b (suc q.c)
-
--- The answer of the code, `NextCombination`, as an option.
-abbrev pub maybe_of : NextCombination → Option Combination
-maybe_of (Next q) = some q
-maybe_of Nothing = none

@@ -11,13 +11,15 @@ use Rattle.pattern_entry.specs.Stars.{stars_fit}
 use Rattle.candidates.specs.declared.entry_tests.Candidate.{Candidate}
 use Rattle.candidates.specs.StarVectors.{stars_of}
 use Rattle.complete.specs.declared.completing.Completed.{Completed}
+use Rattle.std.specs.Prelude.{Result}
+use Rattle.question.specs.declared.Question.{Question}
 use Rattle.complete.specs.Answers.{vectors, refused, completed_as}
 use Rattle.complete.specs.Question14.{candidate_fits, four_valid}
 use Rattle.complete.specs.ImageVectors.{scale_of, image_vectors, matched_of}
 use Rattle.complete.specs.Completing.{last_asked, completing, completed_of}
 
 module _ (centroids : List Float) (order : List ℕ) (passes stars : List Float) (candidate : Candidate) (scale : Float) where
-  abbrev answer : Completed
+  abbrev answer : Result Completed Question
   answer = completed_of centroids order passes stars candidate scale
 
   pub no_1 : centroids_fit centroids ≡ false → completed_as (refused 1) ≡ answer

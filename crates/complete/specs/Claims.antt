@@ -1,11 +1,10 @@
 -- What other crates rely on, written as statements. proofs/ has a proof of each one, under the name given after it. Definitions only.
-use Rattle.std.specs.Prelude.{◌≡◌, ℕ, true, ◌↔◌, List, Float}
+use Rattle.std.specs.Prelude.{◌≡◌, ℕ, true, ◌↔◌, List, Float, is_ok}
 use Rattle.preprocess.specs.Questions.{centroids_fit, coordinates_fit}
 use Rattle.preprocess.specs.BrightnessList.{order_fits}
 use Rattle.settings.specs.Passes.{passes_fit}
 use Rattle.pattern_entry.specs.Stars.{stars_fit}
 use Rattle.candidates.specs.declared.entry_tests.Candidate.{Candidate}
-use Rattle.complete.specs.declared.completing.Completion.{Completion}
 use Rattle.complete.specs.Answers.{completed_says}
 use Rattle.complete.specs.Question14.{candidate_fits, four_valid}
 use Rattle.complete.specs.Completing.{completing, completed_of}
@@ -28,5 +27,5 @@ pub record Asked (centroids : List Float) (order : List ℕ) (passes stars : Lis
 -- Completing is done exactly when every one of its questions is answered yes: `done_exactly`.
 abbrev pub DoneExactly : Type 0
 DoneExactly = (centroids : List Float) (order : List ℕ) (passes stars : List Float) (candidate : Candidate) (scale : Float)
-    → ((completed_of centroids order passes stars candidate scale).answer ≡ Completion.Done)
+    → (is_ok (completed_of centroids order passes stars candidate scale) ≡ true)
     ↔ Asked centroids order passes stars candidate scale

@@ -1,5 +1,5 @@
 -- Completing a candidate, with its questions; document 01, "Completing it takes a pixel scale for the measured field ..". Definitions only.
-use Rattle.std.specs.Prelude.{ℕ, Bool, List, Float}
+use Rattle.std.specs.Prelude.{ℕ, Bool, List, Float, Result}
 use Rattle.pattern_entry.specs.FirstNo.{ask}
 use Rattle.pattern_entry.specs.Stars.{stars_fit}
 use Rattle.candidates.specs.StarVectors.{stars_of}
@@ -10,6 +10,7 @@ use Rattle.candidates.specs.declared.entry_tests.Candidate.{Candidate}
 use Rattle.complete.specs.Question14.{candidate_fits, four_valid}
 use Rattle.complete.specs.ImageVectors.{scale_of, image_vectors, matched_of}
 use Rattle.complete.specs.declared.completing.Completed.{Completed}
+use Rattle.question.specs.declared.Question.{Question}
 use Rattle.complete.specs.Answers.{Answer, vectors, refused, completed_as}
 
 -- the last three questions: 7, 14, then 9
@@ -28,6 +29,6 @@ completing centroids order passes stars candidate scale =
     (matched_of (image_vectors centroids order candidate.places (scale_of passes candidate scale)))
     (stars_of stars candidate.stars))))))
 
--- What `complete` returns: document 01's answer in its struct.
-unfoldable pub completed_of : List Float → List ℕ → List Float → List Float → Candidate → Float → Completed
+-- What `complete` returns: document 01's answer as a result.
+unfoldable pub completed_of : List Float → List ℕ → List Float → List Float → Candidate → Float → Result Completed Question
 completed_of centroids order passes stars candidate scale = completed_as (completing centroids order passes stars candidate scale)

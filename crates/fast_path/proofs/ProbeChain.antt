@@ -33,11 +33,11 @@ module _ (words packed : List ℕ) (stars : List Float) (slots home mark : ℕ) 
     pub along_empty : g ≡ Empty → record { over = true; probe = c; left = a - 1 } ≡ along a c
     along_empty e = sym (along_step ∙ rw e)
 
-    pub along_last : g ≡ Passed → slots ≤ c + 1 → record { over = true; probe = c; left = a - 1 } ≡ along a c
-    along_last e h = sym (along_step ∙ rw (e, le-ltb (suc c) slots (omega arith)))
+    pub along_last : (n : ℕ) → g ≡ Passed n → slots ≤ c + 1 → record { over = true; probe = c; left = a - 1 } ≡ along a c
+    along_last n e h = sym (along_step ∙ rw (e, le-ltb (suc c) slots (omega arith)))
 
-    pub along_next : g ≡ Passed → c + 1 < slots → along (a - 1) (c + 1) ≡ along a c
-    along_next e h = sym (along_step ∙ rw (e, lt-ltb (suc c) slots (omega arith)))
+    pub along_next : (n : ℕ) → g ≡ Passed n → c + 1 < slots → along (a - 1) (c + 1) ≡ along a c
+    along_next n e h = sym (along_step ∙ rw (e, lt-ltb (suc c) slots (omega arith)))
 
   -- Where a chain is over at least one read was made.
   along_over : (a c : ℕ) → (along a c).over ≡ true → (along a c).left < a
@@ -52,7 +52,7 @@ module _ (words packed : List ℕ) (stars : List Float) (slots home mark : ℕ) 
       by : ((along a (suc c)).over ≡ true → (along a (suc c)).left < a) → (g : SlotPeek) → let s = along_chain_by words packed stars slots home mark g a c (along a (suc c)) in s.over ≡ true → s.left < suc a
       by ih Empty e = omega arith
       by ih Stop e = absurd (let z : ◌≡◌ {A = ℕ} 0 1 = cc (e) in omega arith)
-      by ih Passed e = two ih (ltb (suc c) slots) e
+      by ih (Passed n) e = two ih (ltb (suc c) slots) e
 
   pub over_left : (a c : ℕ) (s : ChainResult) → s ≡ along a c → s.over ≡ true → s.left < a
   over_left a c s e o = subst (λ (x : ChainResult). x.over ≡ true → x.left < a) (sym e) (along_over a c) o

@@ -5,9 +5,9 @@ use native.Mathlib.Omega.{arith}
 use native.Mathlib.Nat.{eq-or-lt_of_le}
 use mathlib.Core.Bool.{true, false}
 use mathlib.Core.Logic.{⊎_elim}
-use mathlib.Core.Option.{none}
+use Rattle.std.specs.Prelude.{None}
 use Rattle.undivided_run.specs.declared.state.Position.{Position as Read}
-use Rattle.undivided_run.specs.declared.state.Cap.{Cap}
+use Rattle.undivided_run.specs.Undivided.{Cap}
 use Rattle.undivided_run.specs.declared.state.State.{State}
 use Rattle.undivided_run.specs.declared.state.Cursor.{Cursor}
 use Rattle.undivided_run.specs.declared.state.Next.{Next}
@@ -52,7 +52,7 @@ module _ {E C : Type 0} (F : Feed E C) where
             (subst (λ m. Skippable F cap (b - left) (goes t) (count_tried r n) (goes q) m) (not_counted t (count_tried r n) later) (o.some_made h cap (count_tried r n)))
 
   -- One valid read that gives no candidate is skippable.
-  pub skippable_one : (cap : Cap) (r : Read) (n : ℕ) (v : Next) → valid_at F r ≡ true → gives F r ≡ none → next_read F cap r (count_tried r n) ≡ v → Skippable F cap 1 (goes r) n v (count_tried r n)
+  pub skippable_one : (cap : Cap) (r : Read) (n : ℕ) (v : Next) → valid_at F r ≡ true → gives F r ≡ None → next_read F cap r (count_tried r n) ≡ v → Skippable F cap 1 (goes r) n v (count_tried r n)
   skippable_one cap r n v s g e = (r, (refl, s, g, (e, refl)))
 
   module _ (cap : Cap) (keyed : Keyed F) where

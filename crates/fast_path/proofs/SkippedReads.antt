@@ -4,7 +4,7 @@ use Prim.Native.Nat.{ℕ, zero, suc, ◌+◌, ◌-◌, ◌≤◌, ◌<◌}
 use native.Mathlib.Omega.{arith}
 use mathlib.Core.Bool.{Bool, true, false, not, cond, ◌&&◌}
 use mathlib.Core.List.{List}
-use mathlib.Core.Option.{Option, none, some}
+use Rattle.std.specs.Prelude.{Option, None, Some}
 use lib.Dec.{ltb, eqb}
 use lib.ListN.{get_or}
 use borrow.Author.Tests.{ltb-true, ltb-false}
@@ -13,9 +13,8 @@ use Rattle.pattern_entry.specs.Entry.{bytes_at, mark_in}
 use Rattle.pattern_entry.specs.Validity.{entry_valid}
 use Rattle.pattern_catalog.specs.Blocks.{filled as slotFilled, place}
 use Rattle.candidates.specs.EntryTests.{test_of}
-use Rattle.candidates.specs.declared.entry_tests.Tested.TheVariants.{PassedOver}
 use Rattle.undivided_run.specs.declared.state.Position.{Position}
-use Rattle.undivided_run.specs.declared.state.Cap.{Cap}
+use Rattle.undivided_run.specs.Undivided.{Cap}
 use Rattle.undivided_run.specs.declared.state.Next.{Next}
 use Rattle.undivided_run.specs.declared.state.Next.TheVariants.{Goes as goes}
 use Rattle.undivided_run.specs.Undivided.{Feed, is_zero, is_some, cases, starts, slot_of, filled, gives}
@@ -42,28 +41,28 @@ module _ (D : Data) (r : Position) where
 
   -- A valid read that gives no candidate, of a filled slot (true) or of an empty one (false).
   abbrev pub SkippableAt : Bool → Type 0
-  SkippableAt b = (filled (feed D) r ≡ b) × (valid_at (feed D) r ≡ true) × (gives (feed D) r ≡ none)
+  SkippableAt b = (filled (feed D) r ≡ b) × (valid_at (feed D) r ≡ true) × (gives (feed D) r ≡ None)
 
   pub empty_skippable : peek_here ≡ Empty → SkippableAt false
   unfolding peek_of filled valid_at gives slot_of feed slot_at entry_at cases is_some
-  empty_skippable h = by (slotFilled D.words (slot_at D r)) (is_valid_mismatch D.stars (mark_of (hash_of_read D.frame r)) e) h
+  empty_skippable h = by (place D.words (slot_at D r)) (slotFilled D.words (slot_at D r)) (is_valid_mismatch D.stars (mark_of (hash_of_read D.frame r)) e) h
     where
       e : List ℕ
       e = bytes_at D.packed (place D.words (slot_at D r))
 
-      by : (b c : Bool) → cond b (cond c Passed Stop) Empty ≡ Empty → let o : Option (List ℕ) = cond b (some e) none in (is_some o ≡ false) × (cases o true (entry_valid D.stars) ≡ true) × (cases o none (λ e. if_hit D r e (tested_at D r e)) ≡ none)
-      by false c h = (refl, refl, refl)
-      by true true h = absurd (let z : ◌≡◌ {A = ℕ} 0 1 = cc (h) in omega arith)
-      by true false h = absurd (let z : ◌≡◌ {A = ℕ} 0 1 = cc (h) in omega arith)
+      by : (x : ℕ) (b c : Bool) → cond b (cond c (Passed x) Stop) Empty ≡ Empty → let o : Option (List ℕ) = cond b (Some e) None in (is_some o ≡ false) × (cases o true (entry_valid D.stars) ≡ true) × (cases o None (λ e. if_hit D r e (tested_at D r e)) ≡ None)
+      by x false c h = (refl, refl, refl)
+      by x true true h = absurd (let z : ◌≡◌ {A = ℕ} 0 1 = cc (h) in omega arith)
+      by x true false h = absurd (let z : ◌≡◌ {A = ℕ} 0 1 = cc (h) in omega arith)
 
   -- An entry with another mark is passed over.
-  other_mark : (e : List ℕ) → eqb (mark_in e) (mark_of (hash_of_read D.frame r)) ≡ false → tested_at D r e ≡ PassedOver
+  other_mark : (e : List ℕ) → eqb (mark_in e) (mark_of (hash_of_read D.frame r)) ≡ false → tested_at D r e ≡ None
   unfolding tested_at test_of
   other_mark e o = rw o
 
-  pub passed_skippable : peek_here ≡ Passed → SkippableAt true
+  pub passed_skippable : (y : ℕ) → peek_here ≡ Passed y → SkippableAt true
   unfolding peek_of is_valid_mismatch filled valid_at gives slot_of feed slot_at entry_at cases is_some
-  passed_skippable h = by (slotFilled D.words (slot_at D r)) h
+  passed_skippable y h = by (place D.words (slot_at D r)) (slotFilled D.words (slot_at D r)) h
     where
       e : List ℕ
       e = bytes_at D.packed (place D.words (slot_at D r))
@@ -71,14 +70,14 @@ module _ (D : Data) (r : Position) where
       mark : ℕ
       mark = mark_of (hash_of_read D.frame r)
 
-      two : (s m : Bool) → entry_valid D.stars e ≡ s → eqb (mark_in e) mark ≡ m → cond (s && not m) Passed Stop ≡ Passed → (◌≡◌ {A = Bool} true true) × (entry_valid D.stars e ≡ true) × (if_hit D r e (tested_at D r e) ≡ none)
-      two true false se me h = (refl, se, rw (other_mark e me))
-      two true true se me h = absurd (let z : ◌≡◌ {A = ℕ} 0 1 = cc (h) in omega arith)
-      two false m se me h = absurd (let z : ◌≡◌ {A = ℕ} 0 1 = cc (h) in omega arith)
+      two : (x : ℕ) (s m : Bool) → entry_valid D.stars e ≡ s → eqb (mark_in e) mark ≡ m → cond (s && not m) (Passed x) Stop ≡ Passed y → (◌≡◌ {A = Bool} true true) × (entry_valid D.stars e ≡ true) × (if_hit D r e (tested_at D r e) ≡ None)
+      two x true false se me h = (refl, se, rw (other_mark e me))
+      two x true true se me h = absurd (let z : ◌≡◌ {A = ℕ} 0 1 = cc (h) in omega arith)
+      two x false m se me h = absurd (let z : ◌≡◌ {A = ℕ} 0 1 = cc (h) in omega arith)
 
-      by : (b : Bool) → cond b (cond (entry_valid D.stars e && not (eqb (mark_in e) mark)) Passed Stop) Empty ≡ Passed → let o : Option (List ℕ) = cond b (some e) none in (is_some o ≡ true) × (cases o true (entry_valid D.stars) ≡ true) × (cases o none (λ e. if_hit D r e (tested_at D r e)) ≡ none)
-      by false h = absurd (let z : ◌≡◌ {A = ℕ} 0 1 = cc (h) in omega arith)
-      by true h = two (entry_valid D.stars e) (eqb (mark_in e) mark) refl refl h
+      by : (x : ℕ) (b : Bool) → cond b (cond (entry_valid D.stars e && not (eqb (mark_in e) mark)) (Passed x) Stop) Empty ≡ Passed y → let o : Option (List ℕ) = cond b (Some e) None in (is_some o ≡ true) × (cases o true (entry_valid D.stars) ≡ true) × (cases o None (λ e. if_hit D r e (tested_at D r e)) ≡ None)
+      by x false h = absurd (let z : ◌≡◌ {A = ℕ} 0 1 = cc (h) in omega arith)
+      by x true h = two x (entry_valid D.stars e) (eqb (mark_in e) mark) refl refl h
 
 -- ---- The reads along the chain of key k of a combination.
 module _ (D : Data) (p : Position) (k : ℕ) where
@@ -152,7 +151,7 @@ module _ (D : Data) (p : Position) (k : ℕ) where
         by : (g : SlotPeek) → peek_at_probe c ≡ g → (suc c < D.slots → ChainLeads (along a (suc c)).over a (suc c) (along a (suc c))) → let s = along_chain_by D.words D.packed D.stars D.slots (home_of hash D.slots) (mark_of hash) g a c (along a (suc c)) in ChainLeads s.over (suc a) c s
         by Empty e ih = let q = empty_skippable D (at c) (sym (peek_at_probe_is c) ∙ e) in last a c false q (λ cap n. probe_empty F cap n (at c) false (sym q.0) refl)
         by Stop e ih = leads_nowhere F (at c) (suc a)
-        by Passed e ih = two (passed_skippable D (at c) (sym (peek_at_probe_is c) ∙ e)) ih (ltb (suc c) D.slots) refl
+        by (Passed n) e ih = two (passed_skippable D (at c) n (sym (peek_at_probe_is c) ∙ e)) ih (ltb (suc c) D.slots) refl
 
 -- ---- The reads of a combination, key after key.
 module _ (D : Data) (p : Position) (hashes : List ℕ) (keys : ℕ) (ke : keys ≡ (feed D).keys p.pass p.four) (he : (k : ℕ) → k < keys → get_or hashes k 0 ≡ hash_of_read D.frame (at_key p k 0)) where

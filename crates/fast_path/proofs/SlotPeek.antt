@@ -1,7 +1,7 @@
 -- What is seen at a slot, case by case. Assumes nothing.
 use mathlib.Core.Path.{◌≡◌, refl, sym, ap, ◌∙◌}
-use Prim.Native.Nat.{ℕ, ◌+◌, ◌*◌, ◌/◌, ◌≤◌, ◌<◌}
-use mathlib.Core.Bool.{Bool, true, false, ◌&&◌}
+use Prim.Native.Nat.{ℕ, ◌+◌, ◌*◌, ◌≤◌}
+use mathlib.Core.Bool.{Bool, true, false, cond, ◌&&◌}
 use mathlib.Core.List.{List}
 use lib.Dec.{ltb}
 use lib.ListN.{length}
@@ -13,15 +13,16 @@ use Rattle.pattern_entry.specs.Entry.{word_at, mark_in, bytes_at}
 use Rattle.pattern_entry.specs.Validity.{entry_valid}
 use Rattle.pattern_entry.specs.ValidityShortcuts.{indices_below}
 use Rattle.pattern_entry.proofs.Every.{both_l, both_r}
-use Rattle.pattern_catalog.specs.Blocks.{place}
+use Rattle.pattern_catalog.specs.Blocks.{filled, place}
 use Rattle.pattern_catalog.specs.Answers.{found_says}
 use Rattle.pattern_catalog.specs.SlotRead.{slot_in}
-use Rattle.pattern_catalog.specs.declared.slot_read.Found.{Found}
+use Rattle.std.specs.Prelude.{Option, None, Some, Result, Ok, Err}
+use Rattle.question.specs.Question.{number_of}
+use Rattle.question.specs.declared.Question.{Question}
 use Rattle.pattern_catalog.proofs.SlotRead.{in_place}
 use Rattle.search_feed.proofs.TableRead.{is_empty, is_refused, outside_short}
 use Rattle.fast_path.specs.ValidStars.{ValidBelow}
-use Rattle.fast_path.specs.SlotPeek.{is_valid_mismatch, peek_of}
-use Rattle.fast_path.specs.declared.probe_chain.PeekResult.{PeekResult}
+use Rattle.fast_path.specs.SlotPeek.{is_valid_mismatch, peek_of, PassedInside}
 use Rattle.fast_path.specs.declared.probe_chain.SlotPeek.{SlotPeek}
 use Rattle.fast_path.specs.declared.probe_chain.SlotPeek.TheVariants.{Empty, Passed, Stop}
 
@@ -63,55 +64,45 @@ below_valid stars n s e l h =
     ))
 
 -- ---- The slot, by what `find_near` returns.
-module _ (words packed : List ℕ) (stars : List Float) (mark slot : ℕ) (f : Found) (fe : found_says f ≡ slot_in words packed slot) where
+module _ (words packed : List ℕ) (stars : List Float) (mark slot : ℕ) (f : Result (Option ℕ) Question) (fe : found_says f ≡ slot_in words packed slot) where
   -- What `peek_slot` promises of its result.
-  abbrev pub Shown : PeekResult → Type 0
-  Shown r = (r.peek ≡ peek_of words packed stars mark slot) × (r.peek ≡ Passed → (r.place ≡ place words slot) × (r.place < length packed / 22))
+  abbrev pub Shown : SlotPeek → Type 0
+  Shown g = (g ≡ peek_of words packed stars mark slot) × PassedInside packed g
 
-  -- one that passes over no entry has no place to give
-  plain : (g : SlotPeek) (p : ℕ) → (g ≡ Passed → ⊥) → g ≡ peek_of words packed stars mark slot → (r : PeekResult) → r ≡ record { peek = g; place = p } → Shown r
-  plain g p n ge r re = (ap (λ (x : PeekResult). x.peek) re ∙ ge, λ h. absurd (n (sym (ap (λ (x : PeekResult). x.peek) re) ∙ h)))
-
-  empty_not : Empty ≡ Passed → ⊥
-  empty_not h = let z : ◌≡◌ {A = ℕ} 0 1 = cc (h) in absurd (omega arith)
-
-  stop_not : Stop ≡ Passed → ⊥
-  stop_not h = let z : ◌≡◌ {A = ℕ} 0 1 = cc (h) in absurd (omega arith)
-
-  pub peek_empty : f ≡ Found.Empty → Empty ≡ peek_of words packed stars mark slot
+  pub show_empty : f ≡ Ok None → Shown Empty
   unfolding peek_of
-  peek_empty e = sym (rw (is_empty words packed slot (sym fe ∙ ap found_says e)))
+  show_empty e = (sym (rw (is_empty words packed slot (sym fe ∙ ap found_says e))), λ p h. let z : ◌≡◌ {A = ℕ} 0 1 = cc (h) in absurd (omega arith))
 
-  pub peek_refused : (n : ℕ) → f ≡ Found.Refused n → Stop ≡ peek_of words packed stars mark slot
+  stop_inside : PassedInside packed Stop
+  stop_inside p h = let z : ◌≡◌ {A = ℕ} 0 1 = cc (h) in absurd (omega arith)
+
+  pub show_refused : (q : Question) → f ≡ Err q → Shown Stop
   unfolding peek_of is_valid_mismatch
-  peek_refused n e =
-      let r = is_refused words packed slot n (sym fe ∙ ap found_says e) in
-      sym (rw (r.0, outside_short packed (place words slot) stars r.1))
+  show_refused q e =
+      let r = is_refused words packed slot (number_of q) (sym fe ∙ ap found_says e) in
+      (sym (rw (r.0, outside_short packed (place words slot) stars r.1)), stop_inside)
 
-  pub show_empty : f ≡ Found.Empty → (r : PeekResult) → r ≡ record { peek = Empty; place = 0 } → Shown r
-  show_empty e = plain Empty 0 empty_not (peek_empty e)
-
-  pub show_refused : (n : ℕ) → f ≡ Found.Refused n → (r : PeekResult) → r ≡ record { peek = Stop; place = 0 } → Shown r
-  show_refused n e = plain Stop 0 stop_not (peek_refused n e)
-
-  module _ (p : ℕ) (e : f ≡ Found.At p) where
+  module _ (p : ℕ) (e : f ≡ Ok (Some p)) where
     pub peek_inside : p * 22 + 22 ≤ length packed
     peek_inside = (in_place words packed slot p (sym fe ∙ ap found_says e)).2
 
     module _ (b : Bool) (be : b ≡ is_valid_mismatch stars mark (bytes_at packed p)) where
-      pub peek_passed : b ≡ true → Passed ≡ peek_of words packed stars mark slot
+      pub show_stop : b ≡ false → Shown Stop
       unfolding peek_of
-      peek_passed t = let r = in_place words packed slot p (sym fe ∙ ap found_says e) in sym (rw (r.0, ← r.1, ← be, t))
+      show_stop t = let r = in_place words packed slot p (sym fe ∙ ap found_says e) in (sym (rw (r.0, ← r.1, ← be, t)), stop_inside)
 
-      pub peek_stop : b ≡ false → Stop ≡ peek_of words packed stars mark slot
+      pub show_passed : b ≡ true → Shown (Passed p)
       unfolding peek_of
-      peek_stop t = let r = in_place words packed slot p (sym fe ∙ ap found_says e) in sym (rw (r.0, ← r.1, ← be, t))
+      show_passed t =
+          let r = in_place words packed slot p (sym fe ∙ ap found_says e) in
+          (sym (rw (r.0, ← r.1, ← be, t)), λ n h. let q : p ≡ n = cc (h) in omega (arith, q, r.2))
 
-      pub show_stop : b ≡ false → (r : PeekResult) → r ≡ record { peek = Stop; place = p } → Shown r
-      show_stop t = plain Stop p stop_not (peek_stop t)
-
-      pub show_passed : b ≡ true → (r : PeekResult) → r ≡ record { peek = Passed; place = p } → Shown r
-      show_passed t r re =
-          let i = in_place words packed slot p (sym fe ∙ ap found_says e) in
-          let q : r.place ≡ p = ap (λ (x : PeekResult). x.place) re in
-          (ap (λ (x : PeekResult). x.peek) re ∙ peek_passed t, λ h. (q ∙ i.1, omega (arith, q, i.2)))
+-- The place that is passed over is the slot's.
+pub passed_place : (words packed : List ℕ) (stars : List Float) (mark slot n : ℕ) → peek_of words packed stars mark slot ≡ Passed n → n ≡ place words slot
+unfolding peek_of
+passed_place words packed stars mark slot n h = by (filled words slot) (is_valid_mismatch stars mark (bytes_at packed (place words slot))) h
+  where
+    by : (b c : Bool) → cond b (cond c (Passed (place words slot)) Stop) Empty ≡ Passed n → n ≡ place words slot
+    by true true e = cc (e)
+    by true false e = let z : ◌≡◌ {A = ℕ} 0 1 = cc (e) in absurd (omega arith)
+    by false c e = let z : ◌≡◌ {A = ℕ} 0 1 = cc (e) in absurd (omega arith)

@@ -15,7 +15,7 @@ module _ (words packed : List ℕ) (stars : List Float) (slots : ℕ) where
     abbrev pub along_chain_by : SlotPeek → ℕ → ℕ → ChainResult → ChainResult
     along_chain_by Empty a c on = record { over = true; probe = c; left = a }
     along_chain_by Stop a c on = record { over = false; probe = c; left = suc a }
-    along_chain_by Passed a c on = cond (ltb (suc c) slots) on (record { over = true; probe = c; left = a })
+    along_chain_by (Passed p) a c on = cond (ltb (suc c) slots) on (record { over = true; probe = c; left = a })
 
     -- How far the reads go along the chain from probe c on, with an allowance.
     unfoldable pub along_chain : ℕ → ℕ → ChainResult

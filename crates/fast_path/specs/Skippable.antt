@@ -1,8 +1,8 @@
 -- Reads of the undivided run that are valid and give no candidate, taken together. Definitions only.
 use Rattle.std.specs.Prelude.{◌≡◌, ℕ, zero, suc, ◌-◌, ◌≤◌, ◌<◌, true}
-use Rattle.std.proofs.Math.Option.{none}
+use Rattle.std.specs.Prelude.{None}
 use Rattle.undivided_run.specs.declared.state.Position.{Position as Read}
-use Rattle.undivided_run.specs.declared.state.Cap.{Cap}
+use Rattle.undivided_run.specs.Undivided.{Cap}
 use Rattle.undivided_run.specs.declared.state.Next.{Next}
 use Rattle.undivided_run.specs.declared.state.Next.TheVariants.{Goes as goes}
 use Rattle.undivided_run.specs.Undivided.{Feed, gives}
@@ -11,7 +11,7 @@ use Rattle.undivided_run.specs.Step.{count_tried, valid_at, next_read}
 -- From w, with n combinations counted, j reads that are valid and give no candidate lead to v, with m combinations counted.
 abbrev pub Skippable : {E C : Type 0} → Feed E C → Cap → ℕ → Next → ℕ → Next → ℕ → Type 0
 Skippable F cap zero w n v m = (w ≡ v) × (n ≡ m)
-Skippable F cap (suc j) w n v m = (r : Read) × ((w ≡ goes r) × (valid_at F r ≡ true) × (gives F r ≡ none) × Skippable F cap j (next_read F cap r (count_tried r n)) (count_tried r n) v m)
+Skippable F cap (suc j) w n v m = (r : Read) × ((w ≡ goes r) × (valid_at F r ≡ true) × (gives F r ≡ None) × Skippable F cap j (next_read F cap r (count_tried r n)) (count_tried r n) v m)
 
 -- With an allowance, reads that are valid and give no candidate lead from the read r to the read q, and `left` of the allowance is left.
 pub record Leads {E C : Type 0} (F : Feed E C) (r : Read) (allowance left : ℕ) (q : Read) : Type 0 where

@@ -1,28 +1,22 @@
 // Goes along one key's chain over reads that give no candidate: those of an empty slot, or of a valid entry with another mark. It stops before
 // any other read, which is left to the single read of search_feed: that one asks question 9 and makes all the tests.
 ghost use Rattle.std.specs.Prelude.{◌≡◌, true, ◌+◌, ◌*◌, ◌/◌, ◌≤◌, ◌<◌, length};
-ghost use Rattle.pattern_catalog.specs.Blocks.{table_fits, place};
+ghost use Rattle.pattern_catalog.specs.Blocks.{table_fits};
 ghost use Rattle.pattern_entry.specs.Entry.{bytes_at};
 ghost use Rattle.pattern_catalog.specs.SlotPlace.{PlaceKnown};
 ghost use Rattle.fast_path.specs.ValidStars.{ValidBelow};
-ghost use Rattle.fast_path.specs.SlotPeek.{is_valid_mismatch, peek_of};
+ghost use Rattle.fast_path.specs.SlotPeek.{is_valid_mismatch, peek_of, PassedInside};
 ghost use Rattle.fast_path.specs.ProbeChain.{along_chain};
 
-use pattern_catalog::slot_read::Found;
-
-// What is seen at a slot: it is empty, its entry is valid and has another mark, or the slot is left to the single read.
+// What is seen at a slot.
 #[derive(Clone, Copy)]
 pub enum SlotPeek {
+    // The slot is empty.
     Empty,
-    Passed,
+    // The slot's entry, at this place of the packed section, is valid and has another mark.
+    Passed(u64),
+    // The slot is left to the single read.
     Stop,
-}
-
-// What is seen at a slot, and the place in the packed section of an entry that is passed over.
-#[derive(Clone, Copy)]
-pub struct PeekResult {
-    pub peek: SlotPeek,
-    pub place: u64,
 }
 
 // How far the reads along a chain went.
@@ -50,13 +44,6 @@ fn is_valid_mismatch(packed: &[u8], stars: &[f32], valid: u32, mark: u16, place:
     pattern_entry::validity::entry_valid_at(stars, packed, place)
 }
 
-// Returns the two values as a struct.
-fn peeked(peek: SlotPeek, place: u64) -> PeekResult
-    ensures { result ≡ record { peek = peek; place = place } }
-{
-    PeekResult { peek, place }
-}
-
 // Returns the three values as a struct.
 fn chain_at(over: bool, probe: u32, left: u64) -> ChainResult
     ensures { result ≡ record { over = over; probe = probe; left = left } }
@@ -75,18 +62,18 @@ fn peek_slot(
     slot: u64,
     from: u64,
     there: u64,
-) -> PeekResult
+) -> SlotPeek
     requires { (slot / 448 * 8 + 8 ≤ length words.now) × ValidBelow stars.now valid × PlaceKnown words.now (length packed.now / 22) slot from there }
-    ensures { (result.peek ≡ peek_of words.now packed.now stars.now mark slot) × (result.peek ≡ SlotPeek.Passed → (result.place ≡ place words.now slot) × (result.place < length packed.now / 22)) }
+    ensures { (result ≡ peek_of words.now packed.now stars.now mark slot) × PassedInside packed.now result }
 {
     match pattern_catalog::slot_read::find_near(words, packed, slot, from, there) {
-        Found::Empty => peeked(SlotPeek::Empty, 0),
-        Found::Refused(_) => peeked(SlotPeek::Stop, 0),
-        Found::At(place) => {
+        Ok(None) => SlotPeek::Empty,
+        Err(_) => SlotPeek::Stop,
+        Ok(Some(place)) => {
             if is_valid_mismatch(packed, stars, valid, mark, place) {
-                return peeked(SlotPeek::Passed, place);
+                return SlotPeek::Passed(place);
             }
-            peeked(SlotPeek::Stop, place)
+            SlotPeek::Stop
         }
     }
 }
@@ -112,19 +99,17 @@ pub fn probe_chain(
     let mut there: u64 = 0;
     while 0 < a {
         let slot = undivided_run::probing::probe_slot(home, c, slots);
-        let seen = peek_slot(words, packed, stars, valid, mark, slot, last, there);
-        let peek = seen.peek;
-        match peek {
+        match peek_slot(words, packed, stars, valid, mark, slot, last, there) {
             SlotPeek::Stop => return chain_at(false, c, a),
             SlotPeek::Empty => return chain_at(true, c, a - 1),
-            SlotPeek::Passed => {
+            SlotPeek::Passed(place) => {
                 a -= 1;
                 if slots <= (c + 1) as u64 {
                     return chain_at(true, c, a);
                 }
                 c += 1;
                 last = slot;
-                there = seen.place;
+                there = place;
             }
         }
     }

@@ -2,7 +2,6 @@
 // sky, frame A of its stars, and frame B with glint.
 use search_feed::SearchConfig;
 use settings::tolerance::Tolerance;
-use undivided_run::state::Cap;
 
 // The slot count of the table.
 pub const SLOTS: u64 = 109;
@@ -187,18 +186,13 @@ pub const SPOTS_B: [f32; 26] = [
 pub const ORDER_B: [u32; 13] = [0, 9, 5, 4, 1, 8, 10, 2, 11, 3, 6, 7, 12];
 
 // The settings of both frames. No option is given.
-pub fn config() -> SearchConfig {
-    let matching = Tolerance::Absent;
-    let fov = Tolerance::Absent;
-    let cap = Cap::Absent;
-    SearchConfig {
-        bins: 25,
-        checking: 8,
-        error: 0.01,
-        radius: 0.01,
-        matching,
-        fov,
-        cap,
-        patterns: 54,
-    }
-}
+pub const CONFIG: SearchConfig = SearchConfig {
+    bins: 25,
+    checking: 8,
+    error: 0.01,
+    radius: 0.01,
+    matching: Tolerance::Absent,
+    fov: Tolerance::Absent,
+    cap: None,
+    patterns: 54,
+};

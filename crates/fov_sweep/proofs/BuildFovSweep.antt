@@ -15,10 +15,12 @@ use Rattle.settings.specs.declared.tolerance.Tolerance.{Tolerance}
 use Rattle.fov_sweep.specs.Sweep.{pairs_from, sweep_of, sweep_fits, list_fits, swept_of, later_of}
 use Rattle.fov_sweep.specs.Reach.{reach_of}
 use Rattle.fov_sweep.proofs.Offsets.{beside_reach}
-use Rattle.fov_sweep.specs.declared.Swept.TheVariants.{Values, Refused}
+use Rattle.std.specs.Prelude.{Result, Ok, Err}
+use Rattle.question.specs.declared.Question.{Question}
+use Rattle.question.specs.declared.Question.TheVariants.{SweepNumbers, SweepRoom}
 
 module _ (estimate : Float) (error : Tolerance) (step : Float) (d : List Float) where
-  pub refused_12 : sweep_fits estimate error step ≡ false → (Refused 12 ≡ swept_of estimate error step (length d)) × (d ≡ later_of estimate error step d)
+  pub refused_12 : sweep_fits estimate error step ≡ false → (◌≡◌ {A = Result ℕ Question} (Err SweepNumbers) (swept_of estimate error step (length d))) × (d ≡ later_of estimate error step d)
   unfolding swept_of later_of
   refused_12 h = (rw h, rw h)
 
@@ -39,7 +41,7 @@ module _ (estimate : Float) (error : Tolerance) (step : Float) (d : List Float) 
       long : min n (length d + 1) ≡ min (length (sweep_of (length d) estimate error step)) (length d + 1)
       long = count ∙ ap (λ (l : List Float). min (length l) (length d + 1)) (list_is (length d))
 
-      pub refused_13 : length d < n → (Refused 13 ≡ swept_of estimate error step (length d)) × (d ≡ later_of estimate error step d)
+      pub refused_13 : length d < n → (◌≡◌ {A = Result ℕ Question} (Err SweepRoom) (swept_of estimate error step (length d))) × (d ≡ later_of estimate error step d)
       unfolding swept_of later_of list_fits
       refused_13 h =
           let past : length d < length (sweep_of (length d) estimate error step) = omega (arith, long) in
@@ -47,9 +49,9 @@ module _ (estimate : Float) (error : Tolerance) (step : Float) (d : List Float) 
 
       pub swept : n ≤ length d → (later : List Float)
           → later ≡ (estimate ∷ pairs_from (length d) estimate reach step step) ++ drop (length (estimate ∷ pairs_from (length d) estimate reach step step)) d
-          → (Values n ≡ swept_of estimate error step (length d)) × (later ≡ later_of estimate error step d)
+          → (◌≡◌ {A = Result ℕ Question} (Ok n) (swept_of estimate error step (length d))) × (later ≡ later_of estimate error step d)
       unfolding swept_of later_of list_fits
       swept h later e =
           let room : length (sweep_of (length d) estimate error step) ≤ length d = omega (arith, long) in
           let same : n ≡ length (sweep_of (length d) estimate error step) = omega (arith, long) in
-          (rw (fits, le-leb _ _ room) (ap Values same), rw (fits, le-leb _ _ room) (e ∙ ap (λ (l : List Float). l ++ drop (length l) d) (list_is (length d))))
+          (rw (fits, le-leb _ _ room) (ap Ok same), rw (fits, le-leb _ _ room) (e ∙ ap (λ (l : List Float). l ++ drop (length l) d) (list_is (length d))))

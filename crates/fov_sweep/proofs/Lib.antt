@@ -1,4 +1,5 @@
 pub mod Offsets
+pub mod OffsetList
 pub mod CountValues
 pub mod WriteValues
 pub mod BuildFovSweep

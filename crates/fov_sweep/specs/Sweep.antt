@@ -1,5 +1,5 @@
 -- The sweep: the fields of view to try around an estimate, with questions 12 and 13. Definitions only.
-use Rattle.std.specs.Prelude.{ℕ, zero, suc, Bool, cond, ◌&&◌, List, [], ◌∷◌, ◌++◌, leb, length, drop, Float}
+use Rattle.std.specs.Prelude.{ℕ, zero, suc, Bool, cond, ◌&&◌, List, [], ◌∷◌, ◌++◌, leb, length, drop, Float, Result, Ok, Err}
 use Rattle.std.specs.Float.{binary32}
 use Rattle.std.specs.Float.Ieee.{add, sub, lt, le}
 use Rattle.std.specs.Float.Ieee.Scale.{finite}
@@ -8,8 +8,8 @@ use Rattle.numeric.specs.MinMax.{smaller}
 use Rattle.settings.specs.Tolerance.{option_fits}
 use Rattle.settings.specs.declared.tolerance.Tolerance.{Tolerance}
 use Rattle.settings.specs.declared.tolerance.Tolerance.TheVariants.{Given, Absent}
-use Rattle.fov_sweep.specs.declared.Swept.{Swept}
-use Rattle.fov_sweep.specs.declared.Swept.TheVariants.{Values, Refused}
+use Rattle.question.specs.declared.Question.{Question}
+use Rattle.question.specs.declared.Question.TheVariants.{SweepNumbers, SweepRoom}
 
 -- Question 12: "estimate above 0 and below f32 pi, step finite and above 0, error finite or absent?"
 unfoldable pub sweep_fits : Float → Tolerance → Float → Bool
@@ -49,12 +49,12 @@ unfolding sweep_of
 list_fits estimate error step room = leb (length (sweep_of room estimate error step)) room
 
 -- What `build_fov_sweep` returns for a lent slice of length `room`: question 12 first, then question 13, then the count of values.
-unfoldable pub swept_of : Float → Tolerance → Float → ℕ → Swept
+unfoldable pub swept_of : Float → Tolerance → Float → ℕ → Result ℕ Question
 unfolding sweep_fits list_fits
 swept_of estimate error step room =
     cond (sweep_fits estimate error step)
-    (cond (list_fits estimate error step room) (Values (length (sweep_of room estimate error step))) (Refused 13))
-    (Refused 12)
+    (cond (list_fits estimate error step room) (Ok (length (sweep_of room estimate error step))) (Err SweepRoom))
+    (Err SweepNumbers)
 
 -- The lent slice afterwards: the values are written and nothing after them; a refused sweep leaves the slice as it was.
 unfoldable pub later_of : Float → Tolerance → Float → List Float → List Float

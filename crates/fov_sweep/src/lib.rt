@@ -3,20 +3,16 @@
 
 ghost use Rattle.std.specs.Prelude.{◌≡◌, ◌∷◌, ◌++◌, ◌+◌, ◌≤◌, min, length, take, drop};
 ghost use Rattle.fov_sweep.specs.Sweep.{sweep_fits, pair_at, pairs_from, swept_of, later_of};
+ghost use Rattle.std.specs.Iterator.{YieldsFirst, item_count};
+ghost use Rattle.fov_sweep.specs.OffsetList.{offsets_from, offsets_left};
 ghost use Rattle.fov_sweep.specs.Reach.{reach_of};
 ghost use Rattle.fov_sweep.specs.Answers.{swept_says, sweeping};
 
+use question::Question;
 use settings::tolerance::Tolerance;
 
 // The f32 nearest to pi, bits 40490FDB.
 const PI: f32 = 3.1415927;
-
-// The sweep's answer: the count of values written, or the number of the question that refuses.
-#[derive(Clone, Copy)]
-pub enum Swept {
-    Values(u64),
-    Refused(u32),
-}
 
 // Question 12: is the estimate above 0 and below f32 pi, the step finite and above 0, the error finite or absent?
 fn sweep_fits(estimate: f32, error: Tolerance, step: f32) -> bool
@@ -60,27 +56,62 @@ fn pair_count(estimate: f32, offset: f32) -> usize
     1
 }
 
-// Returns how many values the sweep has, where they fit the room; otherwise a count above the room. Counting stops there, so that the loop
-// ends however small the step is.
+// The offsets of a sweep that are left, from the next one on. At most `left` of them are taken, so that a walk over them ends however small
+// the step is.
+#[derive(Drop)]
+struct SweepOffsets {
+    estimate: f32,
+    reach: f32,
+    step: f32,
+    offset: f32,
+    left: usize,
+}
+
+impl Iterator for SweepOffsets {
+    type Item = f32;
+
+    ghost next_gives = { YieldsFirst offsets_left };
+
+    ghost remaining = { item_count offsets_left };
+
+    // The list ends at the first offset out of reach, at the first whose sum with the estimate isn't below pi, and where the next is no larger.
+    fn next(&mut self) -> Option<f32> {
+        let offset = self.offset;
+        if self.left == 0 || !(offset <= self.reach) || !(self.estimate + offset < PI) {
+            self.left = 0;
+            return None;
+        }
+        self.offset = offset + self.step;
+        self.left = if self.offset <= offset {
+            0
+        } else {
+            self.left - 1
+        };
+        Some(offset)
+    }
+}
+
+// Returns the first `most` offsets of a sweep. The first one is the step.
+fn offsets_of(estimate: f32, reach: f32, step: f32, most: usize) -> SweepOffsets
+    ensures { offsets_left result ≡ offsets_from most estimate reach step step }
+{
+    SweepOffsets {
+        estimate,
+        reach,
+        step,
+        offset: step,
+        left: most,
+    }
+}
+
+// Returns how many values the sweep has, where they fit the room; otherwise a count above the room.
 fn count_values(estimate: f32, reach: f32, step: f32, room: usize) -> usize
     requires { room ≤ 0x4000_0000_0000_0000 }
     ensures { min result (room + 1) ≡ min (length (estimate ∷ pairs_from room estimate reach step step)) (room + 1) }
 {
     let mut n: usize = 1;
-    let mut offset = step;
-    while n <= room {
-        if !(offset <= reach) {
-            return n;
-        }
-        if !(estimate + offset < PI) {
-            return n;
-        }
+    for offset in offsets_of(estimate, reach, step, room) {
         n += pair_count(estimate, offset);
-        let next = offset + step;
-        if next <= offset {
-            return n;
-        }
-        offset = next;
     }
     n
 }
@@ -106,34 +137,30 @@ fn write_values(estimate: f32, reach: f32, step: f32, out: &mut [f32])
 {
     out[0] = estimate;
     let mut at: usize = 1;
-    let mut offset = step;
-    while offset <= reach {
-        if !(estimate + offset < PI) {
-            return;
-        }
+    for offset in offsets_of(estimate, reach, step, out.len()) {
         at = put_pair(estimate, offset, out, at);
-        let next = offset + step;
-        if next <= offset {
-            return;
-        }
-        offset = next;
     }
 }
 
 // The sweep: writes the estimate, then estimate + offset and, if above 0, estimate − offset, for offsets a step apart. It asks questions 12
-// and 13 first: the list is counted before anything is written, so a refused sweep leaves the slice as it was.
-pub fn build_fov_sweep(estimate: f32, error: Tolerance, step: f32, out: &mut [f32]) -> Swept
+// and 13 first and returns the count of the values: the list is counted before anything is written, so a refused sweep leaves the slice as it was.
+pub fn build_fov_sweep(
+    estimate: f32,
+    error: Tolerance,
+    step: f32,
+    out: &mut [f32],
+) -> Result<u64, Question>
     ensures swept { (result ≡ swept_of estimate error step (length out.old)) × (out.new ≡ later_of estimate error step out.old) }
     ensures says { swept_says result out.new ≡ sweeping estimate error step (length out.old) }
 {
     if !sweep_fits(estimate, error, step) {
-        return Swept::Refused(12);
+        return Err(Question::SweepNumbers);
     }
     let reach = reach_of(error);
     let n = count_values(estimate, reach, step, out.len());
     if n > out.len() {
-        return Swept::Refused(13);
+        return Err(Question::SweepRoom);
     }
     write_values(estimate, reach, step, out);
-    Swept::Values(n as u64)
+    Ok(n as u64)
 }

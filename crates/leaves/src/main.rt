@@ -1,38 +1,27 @@
 // Writes the square roots and arcs of a few values, all by their bits: those of document 01's cases, and the roots of -0 and -1.
 #![tactic(auto)]
 
-// The descriptor of standard output.
-const STDOUT_FILENO: i32 = 1;
+use numeric::bits::{from_bits, to_bits};
 
-// Writes a name, the bits x and the bits of the result r.
-fn show(name: &[u8], x: u32, r: f32) {
-    io::write_all(STDOUT_FILENO, name);
-    io::print_hex(STDOUT_FILENO, x as u64, 8);
-    io::write_all(STDOUT_FILENO, b" is ");
-    io::print_hex(STDOUT_FILENO, numeric::bits::to_bits(r) as u64, 8);
-    io::write_all(STDOUT_FILENO, b"\n");
-}
+// The f32 values whose roots are written, by their bits: 4, 2, -0 and -1.
+const ROOTS: [u32; 4] = [0x4080_0000, 0x4000_0000, 0x8000_0000, 0xbf80_0000];
 
-// Writes the square root of the f32 with bits x.
-fn root(x: u32) {
-    show(
-        b"root of ",
-        x,
-        square_root::sqrt(numeric::bits::from_bits(x)),
-    );
-}
+// The f32 values whose arcs are written, by their bits: 0 and 1.
+const ARCS: [u32; 2] = [0, 0x3f80_0000];
 
-// Writes the arc of the f32 with bits x.
-fn arcsine(x: u32) {
-    show(b"arc of ", x, arc::arc(numeric::bits::from_bits(x)));
+// Writes for each of the f32 with these bits the name of a function, the bits, and the bits of what the function gives. A line that
+// can't be written is left out.
+fn show(rt: &impl Print, name: &str, inputs: &[u32], function: fn(f32) -> f32)
+    requires { (x : _) → pre function x }
+{
+    for x in inputs {
+        let r = to_bits(function(from_bits(*x)));
+        let _ = println!(rt; "{name} of {x:08x} is {r:08x}");
+    }
 }
 
 // Writes four roots and two arcs.
-fn main() {
-    root(0x4080_0000);
-    root(0x4000_0000);
-    root(0x8000_0000);
-    root(0xbf80_0000);
-    arcsine(0);
-    arcsine(0x3f80_0000);
+fn main(rt: HostRuntime) {
+    show(&rt, "root", &ROOTS, square_root::sqrt);
+    show(&rt, "arc", &ARCS, arc::arc);
 }

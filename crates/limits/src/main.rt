@@ -5,165 +5,161 @@
 use pattern_search::{Answer, Searched};
 use search_feed::SearchConfig;
 use settings::tolerance::Tolerance;
-use undivided_run::state::{Cap, Phase, State, Status};
+use std::fmt;
+use undivided_run::state::{State, Status};
 
-// The descriptor of standard output.
-const STDOUT_FILENO: i32 = 1;
+// What a call answered, to be written as its name with its status or the number of its question, and the counts of its state.
+#[derive(Clone, Copy)]
+struct Line(Searched);
 
-// Writes the name of a status.
-fn status(s: Status) {
-    match s {
-        Status::TooFew => {
-            io::write_all(STDOUT_FILENO, b"toofew");
-        }
-        Status::NoMatch => {
-            io::write_all(STDOUT_FILENO, b"nomatch");
-        }
-        Status::Timeout => {
-            io::write_all(STDOUT_FILENO, b"timeout");
-        }
+// Returns the name of a status.
+fn name_of(status: Status) -> &'static str {
+    match status {
+        Status::TooFew => "toofew",
+        Status::NoMatch => "nomatch",
+        Status::Timeout => "timeout",
     }
 }
 
-// Writes the name of an answer, with its status or the number of its question.
-fn answer(a: Answer) {
-    match a {
-        Answer::Candidate => {
-            io::write_all(STDOUT_FILENO, b"candidate");
+impl fmt::Display for Line {
+    fn fmt<W: fmt::Write>(&self, f: &mut fmt::Formatter<W>) -> fmt::Result {
+        match self.0.answer {
+            Ok(Answer::Candidate(_)) => write!(f, "candidate")?,
+            Ok(Answer::AllowanceUsed) => write!(f, "used")?,
+            Ok(Answer::Ended(status)) => write!(f, "ended {}", name_of(status))?,
+            Err(question) => write!(f, "refused {}", u32::from(question))?,
         }
-        Answer::AllowanceUsed => {
-            io::write_all(STDOUT_FILENO, b"used");
-        }
-        Answer::Ended(s) => {
-            io::write_all(STDOUT_FILENO, b"ended ");
-            status(s);
-        }
-        Answer::Refused(n) => {
-            io::write_all(STDOUT_FILENO, b"refused ");
-            io::print_decimal(STDOUT_FILENO, n as u64);
-        }
+        let state = self.0.state;
+        write!(f, " patterns {} reads {}", state.patterns, state.reads)
     }
-}
-
-// Writes a name and what a call answered, with the counts of its state.
-fn show(name: &[u8], r: Searched) {
-    io::write_all(STDOUT_FILENO, name);
-    let a = r.answer;
-    answer(a);
-    let s = r.state;
-    io::write_all(STDOUT_FILENO, b" patterns ");
-    io::print_decimal(STDOUT_FILENO, s.patterns);
-    io::write_all(STDOUT_FILENO, b" reads ");
-    io::print_decimal(STDOUT_FILENO, s.reads);
-    io::write_all(STDOUT_FILENO, b"\n");
 }
 
 // Returns settings with this cap, for a table of one pattern: 1 bin, 64 checking stars and a table's error of 1/8.
-fn settings(cap: Cap) -> SearchConfig {
-    let matching = Tolerance::Absent;
-    let fov = Tolerance::Absent;
+fn settings(cap: Option<u64>) -> SearchConfig {
     SearchConfig {
         bins: 1,
         checking: 64,
         error: 0.125,
         radius: 0.125,
-        matching,
-        fov,
+        matching: Tolerance::Absent,
+        fov: Tolerance::Absent,
         cap,
         patterns: 1,
     }
 }
 
-// Makes a call with 100 reads from a fresh state over a table of these words, of whose slots none is filled, and writes the answer.
-fn call(
-    name: &[u8],
-    centroids: &[f32],
-    order: &[u32],
-    cap: Cap,
-    passes: &[f32],
-    slots: u64,
-    words: &[u64],
-) {
-    let packed = [0u8; 22];
-    let stars = [0.0f32; 3];
-    let phase = Phase::Fresh;
-    let state = State {
-        phase,
-        patterns: 0,
-        reads: 0,
+// What a call is lent beside its table: the centroids, the brightness list, the cap and the passes.
+#[derive(Clone, Copy)]
+struct Frame<'a> {
+    centroids: &'a [f32],
+    order: &'a [u32],
+    cap: Option<u64>,
+    passes: &'a [f32],
+}
+
+impl Frame<'_> {
+    // Makes a call with 100 reads from a fresh state over a table of these words, of whose slots none is filled, and writes the answer. A
+    // line that can't be written is left out.
+    fn call(&self, rt: &impl Print, name: &str, slots: u64, words: &[u64]) {
+        let searched = pattern_search::search(
+            self.centroids,
+            self.order,
+            settings(self.cap),
+            self.passes,
+            slots,
+            words,
+            &[0; 22],
+            &[0.0; 3],
+            State::fresh(),
+            100,
+        );
+        let line = Line(searched);
+        let _ = println!(rt; "{name}: {line}");
+    }
+
+    // Makes a call from a fresh state over a table of one empty slot, and writes the answer.
+    fn over_one_slot(&self, rt: &impl Print, name: &str) {
+        self.call(rt, name, 1, &[0; 8]);
+    }
+}
+
+// A brightness list of four spots, in their order.
+const FOUR: [u32; 4] = [0, 1, 2, 3];
+
+// A brightness list of three spots, in their order.
+const THREE: [u32; 3] = [0, 1, 2];
+
+// The one pass that keeps equal spots, since its cosine is 1.
+const PASS: [f32; 3] = [0.5, 0.125, 1.0];
+
+// The coordinates of four spots, which are equal.
+const SPOTS: [f32; 8] = [0.0; 8];
+
+// Makes calls at the limits that document 01 names after its cases.
+fn limits(rt: &impl Print) {
+    let most = Frame {
+        centroids: &[0.0; 512],
+        order: &FOUR,
+        cap: None,
+        passes: &PASS,
     };
-    let r = pattern_search::search(
-        centroids,
-        order,
-        settings(cap),
-        passes,
-        slots,
-        words,
-        &packed,
-        &stars,
-        state,
-        100,
-    );
-    show(name, r);
-}
-
-// Makes a call from a fresh state over a table of one empty slot, and writes the answer.
-fn over_one_slot(name: &[u8], centroids: &[f32], order: &[u32], cap: Cap, passes: &[f32]) {
-    let words = [0u64; 8];
-    call(name, centroids, order, cap, passes, 1, &words);
-}
-
-// Makes calls at the limits that document 01 names after its cases. The one pass keeps equal spots, since its cosine is 1.
-fn limits() {
-    let four = [0u32, 1u32, 2u32, 3u32];
-    let three = [0u32, 1u32, 2u32];
-    let most = [0.0f32; 512];
-    let more = [0.0f32; 514];
-    let pass = [0.5f32, 0.125f32, 1.0f32];
-    let none = Cap::Absent;
-    over_one_slot(b"256 centroids, 4 kept: ", &most, &four, none, &pass);
-    over_one_slot(b"257 centroids: ", &more, &four, none, &pass);
-    over_one_slot(b"256 centroids, 3 kept: ", &most, &three, none, &pass);
+    most.over_one_slot(rt, "256 centroids, 4 kept");
+    let more = Frame {
+        centroids: &[0.0; 514],
+        ..most
+    };
+    more.over_one_slot(rt, "257 centroids");
+    let three = Frame {
+        order: &THREE,
+        ..most
+    };
+    three.over_one_slot(rt, "256 centroids, 3 kept");
 }
 
 // Makes calls that end without a read: "Cap 0 is Timeout even with no spots."
 // "A pass below 4 kept has status TooFew, else one with 0 slots or a pattern count of 0 NoMatch"
-fn without_a_read() {
-    let three = [0u32, 1u32, 2u32];
-    let spots = [0.0f32; 8];
-    let pass = [0.5f32, 0.125f32, 1.0f32];
-    let words = [0u64; 8];
-    let none = Cap::Absent;
-    let cap = Cap::Given(0);
-    over_one_slot(b"no spots, cap 0: ", &spots[0..0], &three[0..0], cap, &pass);
-    call(
-        b"3 kept, 0 slots: ",
-        &spots,
-        &three,
-        none,
-        &pass,
-        0,
-        &words[0..0],
-    );
+fn without_a_read(rt: &impl Print) {
+    let none = Frame {
+        centroids: &[],
+        order: &[],
+        cap: Some(0),
+        passes: &PASS,
+    };
+    none.over_one_slot(rt, "no spots, cap 0");
+    let three = Frame {
+        centroids: &SPOTS,
+        order: &THREE,
+        cap: None,
+        passes: &PASS,
+    };
+    three.call(rt, "3 kept, 0 slots", 0, &[]);
 }
 
 // Makes calls with two passes: "Before each pass and each combination, a cap already reached ends it with Timeout." "The last pass's status
 // ends the run." Equal spots are all kept under the cosine 1, and only one of them under the cosine 0.
-fn over_two_passes() {
-    let four = [0u32, 1u32, 2u32, 3u32];
-    let spots = [0.0f32; 8];
-    let fewer = [0.5f32, 0.125f32, 1.0f32, 0.5f32, 0.125f32, 0.0f32];
-    let more = [0.5f32, 0.125f32, 0.0f32, 0.5f32, 0.125f32, 1.0f32];
-    let one = Cap::Given(1);
-    let two = Cap::Given(2);
-    over_one_slot(b"4 kept then 1, cap 1: ", &spots, &four, one, &fewer);
-    over_one_slot(b"4 kept then 1, cap 2: ", &spots, &four, two, &fewer);
-    over_one_slot(b"1 kept then 4, cap 1: ", &spots, &four, one, &more);
+fn over_two_passes(rt: &impl Print) {
+    let fewer = Frame {
+        centroids: &SPOTS,
+        order: &FOUR,
+        cap: Some(1),
+        passes: &[0.5, 0.125, 1.0, 0.5, 0.125, 0.0],
+    };
+    fewer.over_one_slot(rt, "4 kept then 1, cap 1");
+    let later = Frame {
+        cap: Some(2),
+        ..fewer
+    };
+    later.over_one_slot(rt, "4 kept then 1, cap 2");
+    let more = Frame {
+        passes: &[0.5, 0.125, 0.0, 0.5, 0.125, 1.0],
+        ..fewer
+    };
+    more.over_one_slot(rt, "1 kept then 4, cap 1");
 }
 
 // Makes all the calls.
-fn main() {
-    limits();
-    without_a_read();
-    over_two_passes();
+fn main(rt: HostRuntime) {
+    limits(&rt);
+    without_a_read(&rt);
+    over_two_passes(&rt);
 }

@@ -1,3 +1,4 @@
+pub mod Arrays
 pub mod Tests
 pub mod Fraction
 pub mod Order
@@ -12,7 +13,6 @@ pub mod Unique
 pub mod Intervals
 pub mod Risings
 pub mod Magnitudes
-pub mod TruncateTests
 pub mod SmallTruncation
-pub mod Nans
-pub mod WrappingMul
+pub mod MapOf
+pub mod AllBelow

@@ -7,23 +7,12 @@ ghost use Rattle.numeric.specs.Magnitude.{magnitude_of};
 pub fn magnitude(x: f32) -> f32
     ensures { result ≡ magnitude_of x }
 {
-    if x < 0.0 {
-        return -x;
-    }
-    if x == 0.0 {
-        return 0.0;
-    }
-    x
+    x.abs()
 }
 
 // Tells whether x is neither a NaN nor an infinity.
 pub fn is_finite(x: f32) -> bool
     ensures { result ≡ finite x }
 {
-    if -1.0 / 0.0 < x {
-        if x < 1.0 / 0.0 {
-            return true;
-        }
-    }
-    false
+    x.is_finite()
 }

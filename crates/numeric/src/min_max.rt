@@ -1,4 +1,5 @@
 // The larger and the smaller of two f32, each chosen by one comparison. The laws of the order of f32 are in proofs/.
+// Kept: `f32::max` and `f32::min` give the other value beside a NaN and either of two zeros, and callers rely on the definitions here, which say more.
 ghost use Rattle.std.specs.Prelude.{◌≡◌};
 ghost use Rattle.numeric.specs.MinMax.{larger, smaller};
 
@@ -6,18 +7,12 @@ ghost use Rattle.numeric.specs.MinMax.{larger, smaller};
 pub fn larger(x: f32, y: f32) -> f32
     ensures { result ≡ larger x y }
 {
-    if x < y {
-        return y;
-    }
-    x
+    if x < y { y } else { x }
 }
 
 // Returns y if y is below x, else x. So it returns x if either of them is a NaN.
 pub fn smaller(x: f32, y: f32) -> f32
     ensures { result ≡ smaller x y }
 {
-    if y < x {
-        return y;
-    }
-    x
+    if y < x { y } else { x }
 }

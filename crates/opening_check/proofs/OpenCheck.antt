@@ -4,7 +4,7 @@ use Prim.Native.Nat.{ℕ, zero, suc, ◌+◌, ◌-◌, ◌*◌, ◌/◌, ◌%◌
 use mathlib.Core.Path.{◌≡◌, refl, sym, ap, ap₂, ◌∙◌}
 use mathlib.Core.Bool.{Bool, true, false, cond, ◌&&◌, and-true}
 use mathlib.Core.List.{List}
-use mathlib.Core.Option.{none, some}
+use Rattle.std.specs.Prelude.{Option, None, Some}
 use native.Mathlib.Omega.{arith}
 use native.Mathlib.Nat.{add-zero, zero-add}
 use borrow.Author.Tests.{eq-eqb, ne_eqb, eqb-true, le-leb}
@@ -21,7 +21,6 @@ use Rattle.opening_check.specs.Shortcuts.{ranks_read, all_valid, all_below}
 use Rattle.pattern_entry.specs.StarsShortcuts.{every_star}
 use Rattle.pattern_entry.specs.ValidityShortcuts.{indices_below}
 use Rattle.pattern_entry.proofs.Indices.{indices_valid_at}
-use Rattle.opening_check.specs.declared.open_check.Ranks.{Ranks}
 use Rattle.pattern_entry.proofs.Every.{every_suc, every_at, every_fails, every_same, both_l, both_r}
 use Rattle.pattern_catalog.proofs.CountOnes.{bit_le, ones_join, ones_suc}
 
@@ -45,11 +44,11 @@ block_more words b =
     ∙ ap (λ (a : ℕ). ones_in words 0 (b * 448) + ones_in words a 448) z
 
 module _ (words : List ℕ) where
-  pub ranks_wrong : (blocks b : ℕ) → b < blocks → (rank_of words b ≡ ones_in words 0 (b * 448) → ⊥) → Ranks.Wrong ≡ ranks_read words blocks
+  pub ranks_wrong : (blocks b : ℕ) → b < blocks → (rank_of words b ≡ ones_in words 0 (b * 448) → ⊥) → ◌≡◌ {A = Option ℕ} None (ranks_read words blocks)
   unfolding ranks_read
   ranks_wrong blocks b h f = simp (every_fails blocks (rank_right words) b h (ne_eqb _ _ f))
 
-  pub ranks_right : (blocks : ℕ) → every blocks (rank_right words) ≡ true → Ranks.Right (ones_in words 0 (blocks * 448)) ≡ ranks_read words blocks
+  pub ranks_right : (blocks : ℕ) → every blocks (rank_right words) ≡ true → Some (ones_in words 0 (blocks * 448)) ≡ ranks_read words blocks
   unfolding ranks_read
   ranks_right blocks a = simp a
 
@@ -93,27 +92,27 @@ module _ (words : List ℕ) (slots : ℕ) where
 
 -- ---- question 10
 
-pub right_ranks : (words : List ℕ) (blocks n : ℕ) → ranks_read words blocks ≡ Ranks.Right n → every blocks (rank_right words) ≡ true
+pub right_ranks : (words : List ℕ) (blocks n : ℕ) → ranks_read words blocks ≡ Some n → every blocks (rank_right words) ≡ true
 unfolding ranks_read
 right_ranks words blocks n h = by_test (every blocks (rank_right words)) h
   where
-    by_test : (b : Bool) → cond b (Ranks.Right (ones_in words 0 (blocks * 448))) Ranks.Wrong ≡ Ranks.Right n → b ≡ true
+    by_test : (b : Bool) → cond b (Some (ones_in words 0 (blocks * 448))) None ≡ Some n → b ≡ true
     by_test true e = refl
     by_test false e = let z : ◌≡◌ {A = ℕ} 0 1 = cc in absurd (omega arith)
 
-pub right_total : (words : List ℕ) (blocks n : ℕ) → ranks_read words blocks ≡ Ranks.Right n → n ≡ ones_in words 0 (blocks * 448)
+pub right_total : (words : List ℕ) (blocks n : ℕ) → ranks_read words blocks ≡ Some n → n ≡ ones_in words 0 (blocks * 448)
 unfolding ranks_read
 right_total words blocks n h = by_test (every blocks (rank_right words)) h
   where
-    by_test : (b : Bool) → cond b (Ranks.Right (ones_in words 0 (blocks * 448))) Ranks.Wrong ≡ Ranks.Right n → n ≡ ones_in words 0 (blocks * 448)
+    by_test : (b : Bool) → cond b (Some (ones_in words 0 (blocks * 448))) None ≡ Some n → n ≡ ones_in words 0 (blocks * 448)
     by_test true e = cc
     by_test false e = let z : ◌≡◌ {A = ℕ} 0 1 = cc in absurd (omega arith)
 
-wrong_ranks : (words : List ℕ) (blocks : ℕ) → ranks_read words blocks ≡ Ranks.Wrong → every blocks (rank_right words) ≡ false
+wrong_ranks : (words : List ℕ) (blocks : ℕ) → ranks_read words blocks ≡ None → every blocks (rank_right words) ≡ false
 unfolding ranks_read
 wrong_ranks words blocks h = by_test (every blocks (rank_right words)) h
   where
-    by_test : (b : Bool) → cond b (Ranks.Right (ones_in words 0 (blocks * 448))) Ranks.Wrong ≡ Ranks.Wrong → b ≡ false
+    by_test : (b : Bool) → cond b (Some (ones_in words 0 (blocks * 448))) None ≡ None → b ≡ false
     by_test true e = let z : ◌≡◌ {A = ℕ} 0 1 = cc in absurd (omega arith)
     by_test false e = refl
 
@@ -122,7 +121,7 @@ middle_false true c = refl
 middle_false false c = refl
 
 module _ (slots : ℕ) (words packed : List ℕ) where
-  pub index_wrong : ranks_read words (blocks_of slots) ≡ Ranks.Wrong → false ≡ index_right slots words packed
+  pub index_wrong : ranks_read words (blocks_of slots) ≡ None → false ≡ index_right slots words packed
   unfolding index_right
   index_wrong h = simp (wrong_ranks words (blocks_of slots) h)
 
@@ -130,7 +129,7 @@ module _ (slots : ℕ) (words packed : List ℕ) where
   unfolding index_right
   index_tail h = rw h (middle_false (every (blocks_of slots) (rank_right words)) (eqb (length packed) (ones_in words 0 (blocks_of slots * 448) * 22)))
 
-  pub index_is : (n : ℕ) → ranks_read words (blocks_of slots) ≡ Ranks.Right n → tail_clear words slots ≡ true
+  pub index_is : (n : ℕ) → ranks_read words (blocks_of slots) ≡ Some n → tail_clear words slots ≡ true
       → eqb (length packed) (n * 22) ≡ index_right slots words packed
   unfolding index_right
   index_is n h t =
@@ -230,25 +229,25 @@ scan slots words packed stars right =
 -- ---- the answers
 
 module _ (slots : ℕ) (words packed : List ℕ) (stars : List Float) where
-  pub open_6 : table_fits slots words ≡ false → some 6 ≡ opening slots words packed stars
+  pub open_6 : table_fits slots words ≡ false → Some 6 ≡ opening slots words packed stars
   unfolding opening
   open_6 a = simp a
 
-  pub open_7 : table_fits slots words ≡ true → stars_fit stars ≡ false → some 7 ≡ opening slots words packed stars
+  pub open_7 : table_fits slots words ≡ true → stars_fit stars ≡ false → Some 7 ≡ opening slots words packed stars
   unfolding opening
   open_7 a b = simp (a, b)
 
   pub open_10 : table_fits slots words ≡ true → stars_fit stars ≡ true → index_right slots words packed ≡ false
-      → some 10 ≡ opening slots words packed stars
+      → Some 10 ≡ opening slots words packed stars
   unfolding opening
   open_10 a b c = simp (a, b, c)
 
   pub open_9 : table_fits slots words ≡ true → stars_fit stars ≡ true → index_right slots words packed ≡ true
-      → all_valid packed stars (length packed / 22) ≡ false → some 9 ≡ opening slots words packed stars
+      → all_valid packed stars (length packed / 22) ≡ false → Some 9 ≡ opening slots words packed stars
   unfolding opening
   open_9 a b c d = simp (a, b, c, scan slots words packed stars c ∙ d)
 
   pub open_passed : table_fits slots words ≡ true → stars_fit stars ≡ true → index_right slots words packed ≡ true
-      → all_valid packed stars (length packed / 22) ≡ true → none ≡ opening slots words packed stars
+      → all_valid packed stars (length packed / 22) ≡ true → None ≡ opening slots words packed stars
   unfolding opening
   open_passed a b c d = simp (a, b, c, scan slots words packed stars c ∙ d)

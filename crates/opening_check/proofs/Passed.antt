@@ -3,7 +3,7 @@ use Prim.Native.Nat.{ℕ, ◌+◌, ◌-◌, ◌*◌, ◌/◌, ◌%◌, ◌^◌, 
 use mathlib.Core.Path.{◌≡◌, refl, sym, ap, ◌∙◌}
 use mathlib.Core.Bool.{Bool, true, false, cond, ◌&&◌}
 use mathlib.Core.List.{List}
-use mathlib.Core.Option.{Option, none, some}
+use Rattle.std.specs.Prelude.{Option, None, Some}
 use native.Mathlib.Omega.{arith}
 use borrow.Author.Tests.{ltb-true, ltb-false, le-leb, eqb-true, ne_eqb}
 use lib.Dec.{ltb, eqb}
@@ -31,13 +31,13 @@ pub record Yes (slots : ℕ) (words packed : List ℕ) (stars : List Float) : Ty
   pub index : index_right slots words packed ≡ true
   pub valid : every slots (slot_valid words packed stars) ≡ true
 
-pub passed : (slots : ℕ) (words packed : List ℕ) (stars : List Float) → opening slots words packed stars ≡ none → Yes slots words packed stars
+pub passed : (slots : ℕ) (words packed : List ℕ) (stars : List Float) → opening slots words packed stars ≡ None → Yes slots words packed stars
 unfolding opening
 passed slots words packed stars h =
     go (table_fits slots words) (stars_fit stars) (index_right slots words packed) (every slots (slot_valid words packed stars)) refl refl refl refl h
   where
     go : (a b c d : Bool) → table_fits slots words ≡ a → stars_fit stars ≡ b → index_right slots words packed ≡ c → every slots (slot_valid words packed stars) ≡ d
-        → ◌≡◌ {A = Option ℕ} (ask a (some 6) (ask b (some 7) (ask c (some 10) (ask d (some 9) none)))) none
+        → ◌≡◌ {A = Option ℕ} (ask a (Some 6) (ask b (Some 7) (ask c (Some 10) (ask d (Some 9) None)))) None
         → Yes slots words packed stars
     go false b c d x w y z e = let n : ◌≡◌ {A = ℕ} 0 1 = cc in absurd (omega arith)
     go true false c d x w y z e = let n : ◌≡◌ {A = ℕ} 0 1 = cc in absurd (omega arith)
@@ -52,7 +52,7 @@ if_filled false x f e = cc
 no_bit : (w k : ℕ) → w ≡ 0 → eqb (w / 2 ^ k % 2) 1 ≡ false
 no_bit w k e = let h = shr_le w k in ne_eqb (w / 2 ^ k % 2) 1 (λ q. omega arith)
 
-module _ (slots : ℕ) (words packed : List ℕ) (stars : List Float) (h : opening slots words packed stars ≡ none) where
+module _ (slots : ℕ) (words packed : List ℕ) (stars : List Float) (h : opening slots words packed stars ≡ None) where
   yes_all : Yes slots words packed stars
   yes_all = passed slots words packed stars h
 

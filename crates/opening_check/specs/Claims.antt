@@ -1,6 +1,6 @@
 -- What callers may rely on, as statements. The files of proofs/ prove each one under the name given in its comment. Definitions only.
 use Rattle.std.specs.Prelude.{ℕ, ◌+◌, ◌*◌, ◌≤◌, ◌<◌, ◌≡◌, true, false, List, length, Float}
-use Rattle.std.proofs.Math.Option.{none}
+use Rattle.std.specs.Prelude.{None}
 use Rattle.pattern_catalog.specs.Blocks.{filled, ones_in, place}
 use Rattle.pattern_entry.specs.Entry.{bytes_at}
 use Rattle.pattern_entry.specs.Validity.{entry_valid}
@@ -20,20 +20,20 @@ pub record EntryStored (slots : ℕ) (words packed : List ℕ) (stars : List Flo
 
 -- The entry of each filled slot is stored in this way. Proved as `passed_filled`.
 abbrev pub PassedFilled : Type 0
-PassedFilled = (slots : ℕ) (words packed : List ℕ) (stars : List Float) → opening slots words packed stars ≡ none
+PassedFilled = (slots : ℕ) (words packed : List ℕ) (stars : List Float) → opening slots words packed stars ≡ None
     → (s : ℕ) → s < slots → filled words s ≡ true → EntryStored slots words packed stars s
 
 -- Each slot that isn't filled reads as empty. Proved as `passed_empty`.
 abbrev pub PassedEmpty : Type 0
-PassedEmpty = (slots : ℕ) (words packed : List ℕ) (stars : List Float) → opening slots words packed stars ≡ none
+PassedEmpty = (slots : ℕ) (words packed : List ℕ) (stars : List Float) → opening slots words packed stars ≡ None
     → (s : ℕ) → s < slots → filled words s ≡ false → slot_read slots words packed s ≡ empty
 
 -- No slot number from the slot count on has its bit set. Proved as `passed_past`.
 abbrev pub PassedPast : Type 0
-PassedPast = (slots : ℕ) (words packed : List ℕ) (stars : List Float) → opening slots words packed stars ≡ none
+PassedPast = (slots : ℕ) (words packed : List ℕ) (stars : List Float) → opening slots words packed stars ≡ None
     → (s : ℕ) → slots ≤ s → filled words s ≡ false
 
 -- No read of a slot below the slot count is refused. Proved as `passed_never_refused`.
 abbrev pub PassedNeverRefused : Type 0
-PassedNeverRefused = (slots : ℕ) (words packed : List ℕ) (stars : List Float) → opening slots words packed stars ≡ none
+PassedNeverRefused = (slots : ℕ) (words packed : List ℕ) (stars : List Float) → opening slots words packed stars ≡ None
     → (s : ℕ) → s < slots → (n : ℕ) → slot_read slots words packed s ≡ refused n → ⊥

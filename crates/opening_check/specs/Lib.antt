@@ -1,4 +1,3 @@
-pub mod Answers
 pub mod OpenCheck
 pub mod Shortcuts
 pub mod Claims

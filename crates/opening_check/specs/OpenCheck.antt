@@ -1,6 +1,6 @@
 -- The opening check. Document 01: "The opening check goes through 6, 7, 10, then 9 over all filled slots." Definitions only.
 use Rattle.std.specs.Prelude.{ℕ, ◌+◌, ◌-◌, ◌*◌, Bool, true, cond, ◌&&◌, List, eqb, length, Float}
-use Rattle.std.proofs.Math.Option.{Option, none, some}
+use Rattle.std.specs.Prelude.{Option, None, Some}
 use Rattle.pattern_entry.specs.FirstNo.{ask, every}
 use Rattle.pattern_catalog.specs.Blocks.{blocks_of, table_fits, bit_at, filled, ones_in, rank_of, place}
 use Rattle.pattern_entry.specs.Stars.{stars_fit}
@@ -29,7 +29,7 @@ slot_valid words packed stars s =
 -- The number of the first question whose answer is no, or none where the table passes.
 unfoldable pub opening : ℕ → List ℕ → List ℕ → List Float → Option ℕ
 opening slots words packed stars =
-    ask (table_fits slots words) (some 6)
-    (ask (stars_fit stars) (some 7)
-    (ask (index_right slots words packed) (some 10)
-    (ask (every slots (slot_valid words packed stars)) (some 9) none)))
+    ask (table_fits slots words) (Some 6)
+    (ask (stars_fit stars) (Some 7)
+    (ask (index_right slots words packed) (Some 10)
+    (ask (every slots (slot_valid words packed stars)) (Some 9) None)))

@@ -1,16 +1,15 @@
 -- What the code computes on the way to the answers of the questions. That each leads to them is proved in proofs/OpenCheck.antt. Definitions only.
-use Rattle.std.specs.Prelude.{ℕ, ◌*◌, Bool, cond, List, Float}
+use Rattle.std.specs.Prelude.{ℕ, ◌*◌, Bool, cond, List, Float, Option, None, Some}
 use Rattle.pattern_entry.specs.FirstNo.{every}
 use Rattle.pattern_catalog.specs.Blocks.{ones_in}
 use Rattle.pattern_entry.specs.Entry.{bytes_at}
 use Rattle.pattern_entry.specs.Validity.{entry_valid}
 use Rattle.pattern_entry.specs.ValidityShortcuts.{indices_below}
 use Rattle.opening_check.specs.OpenCheck.{rank_right}
-use Rattle.opening_check.specs.declared.open_check.Ranks.{Ranks}
 
 -- The number of ones in the first blocks, where the ranks of these blocks are right.
-unfoldable pub ranks_read : List ℕ → ℕ → Ranks
-ranks_read words blocks = cond (every blocks (rank_right words)) (Ranks.Right (ones_in words 0 (blocks * 448))) Ranks.Wrong
+unfoldable pub ranks_read : List ℕ → ℕ → Option ℕ
+ranks_read words blocks = cond (every blocks (rank_right words)) (Some (ones_in words 0 (blocks * 448))) None
 
 -- Whether the first n packed entries are valid.
 unfoldable pub all_valid : List ℕ → List Float → ℕ → Bool

@@ -1,5 +1,5 @@
 -- The key of rising ratios: its parts are at most bins and never fall. Assumes nothing.
-use Rattle.std.proofs.Common.{◌≡◌, ℕ, ◌<◌, ◌≤◌, List, [], ◌∷◌, get_or}
+use Rattle.std.proofs.Common.{ℕ, ◌<◌, ◌≤◌, get_or}
 use lib.Ieee.{Float, nan}
 use Rattle.numeric.specs.Value.{zero32, one32}
 use Rattle.numeric.specs.KeyPart.{part_of}
@@ -8,10 +8,6 @@ use Rattle.numeric.proofs.Intervals.{in_finite}
 use Rattle.numeric.proofs.KeyParts.{part_at_most, parts_never_fall}
 use Rattle.pattern.specs.Key.{key_of}
 use Rattle.pattern.specs.KeyClaims.{KeyParts, KeyRises}
-
--- Two keys that are equal part by part are equal.
-pub same_five : {a b c d e a' b' c' d' e' : ℕ} → a ≡ a' → b ≡ b' → c ≡ c' → d ≡ d' → e ≡ e' → ◌≡◌ {A = List ℕ} (a ∷ b ∷ c ∷ d ∷ e ∷ []) (a' ∷ b' ∷ c' ∷ d' ∷ e' ∷ [])
-same_five p q r s t = cc
 
 -- The part of a ratio is at most bins.
 pub part_below : (r : Float) (B : ℕ) → Ratio r → 0 < B → B ≤ 4096 → part_of r B ≤ B

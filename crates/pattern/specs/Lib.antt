@@ -1,4 +1,5 @@
 pub mod Sort
+pub mod SortSteps
 pub mod Carried
 pub mod Edges
 pub mod Directions

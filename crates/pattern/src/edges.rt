@@ -37,17 +37,14 @@ pub fn angle(a: [f32; 3], b: [f32; 3]) -> f32
 fn angles(v: [[f32; 3]; 4]) -> [f32; 6]
     ensures { result ≡ angles v }
 {
-    let a = v[0];
-    let b = v[1];
-    let c = v[2];
-    let d = v[3];
-    let ab = angle(a, b);
-    let ac = angle(a, c);
-    let ad = angle(a, d);
-    let bc = angle(b, c);
-    let bd = angle(b, d);
-    let cd = angle(c, d);
-    [ab, ac, ad, bc, bd, cd]
+    [
+        angle(v[0], v[1]),
+        angle(v[0], v[2]),
+        angle(v[0], v[3]),
+        angle(v[1], v[2]),
+        angle(v[1], v[3]),
+        angle(v[2], v[3]),
+    ]
 }
 
 // Returns the six edge angles of four directions, the smallest first. It uses the plain sort, since it is called only for an entry whose mark agrees.
@@ -63,13 +60,7 @@ pub fn compute_edge_ratios(e: [f32; 6]) -> [f32; 5]
 {
     let largest = e[5];
     if 0.0 < largest {
-        return [
-            e[0] / largest,
-            e[1] / largest,
-            e[2] / largest,
-            e[3] / largest,
-            e[4] / largest,
-        ];
+        return std::array::from_fn(|i| e[i] / largest);
     }
-    [0.0, 0.0, 0.0, 0.0, 0.0]
+    [0.0; 5]
 }

@@ -14,12 +14,7 @@ fn key_part(r: f32, bins: u32) -> u32
 pub fn compute_pattern_key(r: [f32; 5], bins: u32) -> [u32; 5]
     ensures { result ≡ key_of r bins }
 {
-    let a = key_part(r[0], bins);
-    let b = key_part(r[1], bins);
-    let c = key_part(r[2], bins);
-    let d = key_part(r[3], bins);
-    let e = key_part(r[4], bins);
-    [a, b, c, d, e]
+    r.map(|x| key_part(x, bins))
 }
 
 // Does one step of a hash, which is worked out from its highest power down: h goes up by one power of bins, and the next part is added.
@@ -31,6 +26,7 @@ fn above(h: u64, bins: u32, part: u32) -> u64
 }
 
 // Returns the hash of a key: the sum of part i times bins^i, which is below 2^62.
+// Kept: written out, each call's bound follows from the call before it; in a fold each turn would need a bound by its number.
 pub fn compute_pattern_key_hash(k: [u32; 5], bins: u32) -> u64
     requires { Parts k bins }
     ensures { result ≡ hash_of k bins }

@@ -10,7 +10,7 @@ use native.Mathlib.Nat.{mod-eq_of_lt, mod-lt, add-suc, add-zero, add_assoc}
 use native.Mathlib.Numerals.{add-one}
 use lib.ListN.{get_or}
 use lib.Count.{ones, ones_cat}
-use lib.Pow.{pow_pos, mod-pow-add, shl_exact, shr-shr}
+use lib.Pow.{pow_pos, mod-pow-add, shr-shr}
 use lib.Bits.{bit_and, and_mask, and_zero_r}
 use Rattle.pattern_catalog.specs.Blocks.{bit_at, ones_in}
 
@@ -81,12 +81,6 @@ word_last words b n hk =
     let e : n ≡ n / 64 * 64 + n % 64 = omega arith in
     ap (ones_in words (b * 448)) e ∙ ones_join words (b * 448) (n / 64 * 64) (n % 64)
     ∙ ap (λ (x : ℕ). ones_in words (b * 448) (n / 64 * 64) + x) (word_ones words b (n / 64) (n % 64) hk (omega arith))
-
--- The shift 1 << b at 64 bits is 2 ^ b, for a b below 64.
-pub shifted : (b : ℕ) → b < 64 → (1 * 2 ^ b) % 18446744073709551616 ≡ 2 ^ b
-shifted b h =
-    let e : (1 * 2 ^ b) % 2 ^ 64 ≡ 1 * 2 ^ b = shl_exact {a = 1} 1 b 64 (omega arith) (omega arith) in
-    omega arith
 
 -- The ones among d slots of a word from its slot j on.
 pub word_part :

@@ -9,13 +9,13 @@ use borrow.Author.Tests.{lt-ltb, le-ltb}
 use Rattle.pattern_catalog.specs.Blocks.{ones_in, place}
 use Rattle.pattern_catalog.proofs.CountOnes.{ones_join, word_part}
 use Rattle.pattern_catalog.specs.Rank.{ranked_at}
-use Rattle.pattern_catalog.specs.declared.rank.Ranked.{Ranked}
+use Rattle.std.specs.Prelude.{Option, None, Some}
 
-pub rank_out : (words : List ℕ) (s entries : ℕ) → entries ≤ place words s → Ranked.Outside ≡ ranked_at words s entries
+pub rank_out : (words : List ℕ) (s entries : ℕ) → entries ≤ place words s → ◌≡◌ {A = Option ℕ} None (ranked_at words s entries)
 unfolding ranked_at
 rank_out words s entries h = simp (le-ltb _ _ h)
 
-pub rank_in : (words : List ℕ) (s entries : ℕ) → place words s < entries → Ranked.Inside (place words s) ≡ ranked_at words s entries
+pub rank_in : (words : List ℕ) (s entries : ℕ) → place words s < entries → Some (place words s) ≡ ranked_at words s entries
 unfolding ranked_at
 rank_in words s entries h = simp (lt-ltb _ _ h)
 

@@ -14,7 +14,7 @@ use Rattle.pattern_catalog.specs.Answers.{filled_at, empty, refused}
 use Rattle.pattern_catalog.specs.SlotPlace.{found_by}
 use Rattle.pattern_catalog.specs.SlotRead.{slot_in, slot_read}
 use Rattle.pattern_catalog.specs.Rank.{ranked_at}
-use Rattle.pattern_catalog.specs.declared.rank.Ranked.{Ranked}
+use Rattle.std.specs.Prelude.{Option}
 use Rattle.pattern_entry.proofs.Every.{both_l, both_r}
 
 -- ---- question 6
@@ -39,7 +39,7 @@ module _ (words packed : List ℕ) (s : ℕ) where
   unfolding slot_in
   in_empty f = simp f
 
-  pub in_ranked : filled words s ≡ true → (r : Ranked) → ranked_at words s (length packed / 22) ≡ r → slot_in words packed s ≡ found_by r
+  pub in_ranked : filled words s ≡ true → (r : Option ℕ) → ranked_at words s (length packed / 22) ≡ r → slot_in words packed s ≡ found_by r
   unfolding slot_in ranked_at in_section
   in_ranked f r e = by_test (ltb (place words s) (length packed / 22)) refl
     where

@@ -1,13 +1,12 @@
 -- What the slot read makes of a place, and what its functions know of one. Definitions only.
-use Rattle.std.specs.Prelude.{◌≡◌, ℕ, ◌≤◌, ◌<◌, List}
+use Rattle.std.specs.Prelude.{◌≡◌, ℕ, ◌≤◌, ◌<◌, List, Option, None, Some}
 use Rattle.pattern_catalog.specs.Blocks.{place}
-use Rattle.pattern_catalog.specs.declared.rank.Ranked.{Ranked}
 use Rattle.pattern_catalog.specs.Answers.{Answer, filled_at, refused}
 
 -- What the read of a filled slot finds: the place of its entry, or a refusal with question 9.
-abbrev pub found_by : Ranked → Answer
-found_by (Ranked.Inside p) = filled_at p
-found_by Ranked.Outside = refused 9
+abbrev pub found_by : Option ℕ → Answer
+found_by (Some p) = filled_at p
+found_by None = refused 9
 
 -- If slot `from` is not after slot s, then `there` is the place of slot `from` and is below m.
 abbrev pub PlaceKnown : List ℕ → ℕ → ℕ → ℕ → ℕ → Type 0

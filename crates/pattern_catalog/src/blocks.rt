@@ -7,10 +7,7 @@ ghost use Rattle.pattern_catalog.specs.Blocks.{filled, table_fits};
 pub fn table_fits(slots: u64, words: &[u64]) -> bool
     ensures { result ≡ table_fits slots words.now }
 {
-    if slots > 16777216 {
-        return false;
-    }
-    words.len() as u64 == (slots + 447) / 448 * 8
+    slots <= 16777216 && words.len() as u64 == slots.div_ceil(448) * 8
 }
 
 // Returns bit b of a word, where bit 0 is the lowest.

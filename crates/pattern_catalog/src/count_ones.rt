@@ -7,7 +7,7 @@ ghost use Rattle.pattern_catalog.specs.Blocks.{ones_in};
 fn count_ones(w: u64) -> u64
     ensures { (result ≡ ones w) × (result ≤ 64) }
 {
-    u64::count_ones(w) as u64
+    u64::from(w.count_ones())
 }
 
 // Returns the number of ones among the bits of a word below bit b.
@@ -26,11 +26,9 @@ pub fn ones_in(words: &[u64], block: usize, n: usize) -> u64
 {
     let first = block * 8 + 1;
     let whole = n / 64;
-    let mut sum: u64 = 0;
-    let mut k: usize = 0;
-    while k < whole {
+    let mut sum = 0;
+    for k in 0..whole {
         sum += count_ones(words[first + k]);
-        k += 1;
     }
     if whole == 7 {
         return sum;
@@ -62,11 +60,9 @@ fn ones_in_whole_words(words: &[u64], block: usize, q: usize) -> u64
 {
     let first = block * 8 + 1;
     let masks = COUNTED;
-    let mut sum: u64 = 0;
-    let mut k: usize = 0;
-    while k < 6 {
+    let mut sum = 0;
+    for k in 0..6 {
         sum += count_ones(words[first + k] & masks[6 - q + k]);
-        k += 1;
     }
     sum
 }

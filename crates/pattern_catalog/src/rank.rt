@@ -5,17 +5,8 @@ ghost use Rattle.pattern_catalog.specs.Rank.{ranked_at};
 
 use crate::count_ones::{ones_below, ones_below_slot};
 
-// The place of an entry, where it is below the number of entries in the section.
-#[derive(Clone, Copy)]
-pub enum Ranked {
-    // The entry is inside the section, at this place.
-    Inside(u64),
-    // The place is not below the number of entries.
-    Outside,
-}
-
 // Returns the place of the slot's entry, which is the block's rank plus the ones below the slot in the block, if it is below the number of entries.
-pub fn block_rank(words: &[u64], slot: usize, entries: u64) -> Ranked
+pub fn block_rank(words: &[u64], slot: usize, entries: u64) -> Option<u64>
     requires { slot / 448 * 8 + 8 ≤ length words.now }
     ensures { result ≡ ranked_at words.now slot entries }
 {
@@ -24,16 +15,16 @@ pub fn block_rank(words: &[u64], slot: usize, entries: u64) -> Ranked
     let rank = words[at];
     let below = ones_below_slot(words, block, slot % 448);
     if rank >= entries {
-        return Ranked::Outside;
+        return None;
     }
     if below >= entries - rank {
-        return Ranked::Outside;
+        return None;
     }
-    Ranked::Inside(rank + below)
+    Some(rank + below)
 }
 
 // Returns the place of the slot's entry, counted on from that of the slot `from`, which is in the same word and not after this one.
-pub fn near_rank(words: &[u64], slot: usize, entries: u64, from: usize, there: u64) -> Ranked
+pub fn near_rank(words: &[u64], slot: usize, entries: u64, from: usize, there: u64) -> Option<u64>
     requires { (slot / 448 * 8 + 8 ≤ length words.now) × (from ≤ slot) × (from / 64 ≡ slot / 64) × (there ≡ place words.now from) × (there < 9223372036854775808) }
     ensures { result ≡ ranked_at words.now slot entries }
 {
@@ -41,7 +32,7 @@ pub fn near_rank(words: &[u64], slot: usize, entries: u64, from: usize, there: u
     let w = words[at] >> (from % 64) as u32;
     let here = there + ones_below(w, (slot - from) as u32);
     if here >= entries {
-        return Ranked::Outside;
+        return None;
     }
-    Ranked::Inside(here)
+    Some(here)
 }

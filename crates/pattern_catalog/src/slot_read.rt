@@ -6,50 +6,40 @@ ghost use Rattle.pattern_catalog.specs.SlotPlace.{found_by, PlaceKnown};
 ghost use Rattle.pattern_catalog.specs.Rank.{ranked_at};
 
 use crate::blocks::{is_filled, table_fits};
-use crate::rank::{Ranked, block_rank, near_rank};
+use crate::rank::{block_rank, near_rank};
+use question::Question;
 
-// What a slot read finds.
-#[derive(Clone, Copy)]
-pub enum Found {
-    // The slot is filled, and its entry is at this place in the packed section.
-    At(u64),
-    Empty,
-    Refused(u32),
-}
-
-// What a slot holds: an entry or nothing, or the number of the question that refuses the read.
+// What a slot holds.
 #[derive(Clone, Copy)]
 pub enum Slot {
     Filled,
     Empty,
-    Refused(u32),
 }
 
 // Returns what the read of a filled slot finds: the place of its entry, or a refusal with question 9 where the place is outside the section.
-fn placed(ranked: Ranked) -> Found
-    ensures { found_says result ≡ found_by ranked }
+fn placed(place: Option<u64>) -> Result<Option<u64>, Question>
+    ensures { found_says result ≡ found_by place }
 {
-    match ranked {
-        Ranked::Inside(p) => Found::At(p),
-        Ranked::Outside => Found::Refused(9),
-    }
+    let inside = place.ok_or(Question::EntryAndStars)?;
+    Ok(Some(inside))
 }
 
-// Reads a slot whose block is in the word slice. If the slot is filled, it asks question 9 for the section.
-pub fn find_in(words: &[u64], packed: &[u8], slot: u64) -> Found
+// Reads a slot whose block is in the word slice: gives the place of its entry, or none where it is empty. If the slot is filled, it asks
+// question 9 for the section.
+pub fn find_in(words: &[u64], packed: &[u8], slot: u64) -> Result<Option<u64>, Question>
     requires { slot / 448 * 8 + 8 ≤ length words.now }
     ensures { found_says result ≡ slot_in words.now packed.now slot }
 {
     let s = slot as usize;
     if !is_filled(words, s) {
-        return Found::Empty;
+        return Ok(None);
     }
     let entries = (packed.len() / 22) as u64;
     placed(block_rank(words, s, entries))
 }
 
 // Returns the place of the slot's entry, counted on from the place of the slot `from` where both are in one word.
-fn rank_from(words: &[u64], slot: usize, entries: u64, from: usize, there: u64) -> Ranked
+fn rank_from(words: &[u64], slot: usize, entries: u64, from: usize, there: u64) -> Option<u64>
     requires { (slot / 448 * 8 + 8 ≤ length words.now) × PlaceKnown words.now 9223372036854775808 slot from there }
     ensures { result ≡ ranked_at words.now slot entries }
 {
@@ -63,39 +53,44 @@ fn rank_from(words: &[u64], slot: usize, entries: u64, from: usize, there: u64) 
 
 // Reads a slot like `find_in`, but is given the place `there` of the slot `from`, which is used if that slot is in the same word and not after
 // this one.
-pub fn find_near(words: &[u64], packed: &[u8], slot: u64, from: u64, there: u64) -> Found
+pub fn find_near(
+    words: &[u64],
+    packed: &[u8],
+    slot: u64,
+    from: u64,
+    there: u64,
+) -> Result<Option<u64>, Question>
     requires { (slot / 448 * 8 + 8 ≤ length words.now) × PlaceKnown words.now (length packed.now / 22) slot from there }
     ensures { found_says result ≡ slot_in words.now packed.now slot }
 {
     let s = slot as usize;
     if !is_filled(words, s) {
-        return Found::Empty;
+        return Ok(None);
     }
     let entries = (packed.len() / 22) as u64;
     placed(rank_from(words, s, entries, from as usize, there))
 }
 
 // The slot read: it asks questions 6 and 11, and then 9 for the section only.
-pub fn find(slots: u64, words: &[u64], packed: &[u8], slot: u64) -> Found
+pub fn find(slots: u64, words: &[u64], packed: &[u8], slot: u64) -> Result<Option<u64>, Question>
     ensures { found_says result ≡ slot_read slots words.now packed.now slot }
 {
     if !table_fits(slots, words) {
-        return Found::Refused(6);
+        return Err(Question::SlotsAndWords);
     }
     if slot >= slots {
-        return Found::Refused(11);
+        return Err(Question::SlotNumber);
     }
     find_in(words, packed, slot)
 }
 
 // Tells what the slot holds.
-pub fn slot_of(slots: u64, words: &[u64], packed: &[u8], slot: u64) -> Slot
+pub fn slot_of(slots: u64, words: &[u64], packed: &[u8], slot: u64) -> Result<Slot, Question>
     ensures { slot_says words.now slot result ≡ slot_read slots words.now packed.now slot }
 {
-    match find(slots, words, packed, slot) {
-        Found::At(_) => Slot::Filled,
-        Found::Empty => Slot::Empty,
-        Found::Refused(n) => Slot::Refused(n),
+    match find(slots, words, packed, slot)? {
+        Some(_) => Ok(Slot::Filled),
+        None => Ok(Slot::Empty),
     }
 }
 
@@ -106,12 +101,12 @@ pub fn entry_of<'a>(slots: u64, words: &[u64], packed: &'a [u8], slot: u64) -> &
     ensures place { (result.ref_ptr.0 ≡ packed.entry.ref_ptr.0) × (result.ref_ptr.1 ≡ part_start (slot_read slots words.now packed.now slot) + packed.entry.ref_ptr.1) }
 {
     match find(slots, words, packed, slot) {
-        Found::At(p) => {
+        Ok(Some(p)) => {
             let a = p as usize * 22;
             let e = a + 22;
             &packed[a..e]
         }
-        Found::Empty => &packed[0..0],
-        Found::Refused(_) => &packed[0..0],
+        Ok(None) => &packed[0..0],
+        Err(_) => &packed[0..0],
     }
 }

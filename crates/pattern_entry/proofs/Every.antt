@@ -1,13 +1,15 @@
 -- Laws of `every` and of the conjunction of two tests. Assumes nothing.
 use Prim.Native.Nat.{ℕ, zero, suc, ◌+◌, ◌<◌}
-use mathlib.Core.Path.{◌≡◌, refl, ap₂, ◌∙◌}
-use mathlib.Core.Bool.{Bool, true, false, ◌&&◌}
+use mathlib.Core.Path.{◌≡◌, refl, ap, ap₂, ◌∙◌}
+use mathlib.Core.Bool.{Bool, true, false, ◌&&◌, and-true}
 use mathlib.Core.Logic.{◌⊎◌, inl, inr}
 use native.Mathlib.Omega.{arith}
 use native.Mathlib.Numerals.{add-one}
 use borrow.Author.Tests.{eqb-true, eqb-false}
 use lib.Dec.{eqb}
 pub use Rattle.numeric.proofs.Tests.{both_l, both_r, both}
+use Rattle.std.specs.List.{list_all, range_with_len}
+use Rattle.numeric.proofs.AllBelow.{all_more}
 use Rattle.pattern_entry.specs.FirstNo.{every}
 
 pub every_suc : (n : ℕ) (p : ℕ → Bool) → every (n + 1) p ≡ (every n p && p n)
@@ -20,6 +22,10 @@ every_none p = refl
 
 pub every_more : (n : ℕ) (p : ℕ → Bool) → every n p ≡ true → p n ≡ true → every (n + 1) p ≡ true
 every_more n p a f = every_suc n p ∙ simp (a, f)
+
+-- What `all` says of three tests.
+pub all_three : (a b c : Bool) → (a && (b && (c && true))) ≡ (a && (b && c))
+all_three a b c = ap (λ (z : Bool). a && (b && z)) (and-true c)
 
 last_or : {i n : ℕ} → i < suc n → (i < n) ⊎ (i ≡ n)
 last_or {i} {n} h = by_test (eqb i n) refl
@@ -49,3 +55,9 @@ pub every_same : (n : ℕ) (p q : ℕ → Bool) → ((i : ℕ) → i < n → p i
 unfolding every
 every_same zero p q h = refl
 every_same (suc n) p q h = ap₂ ◌&&◌ (every_same n p q (λ i l. h i (omega arith))) (h n (omega arith))
+
+-- What `all` says of the numbers below n.
+pub every_is : (p : ℕ → Bool) (n : ℕ) → list_all p (range_with_len 0 n) ≡ every n p
+unfolding every
+every_is p zero = refl
+every_is p (suc n) = all_more p n ∙ ap (◌&& p n) (every_is p n)

@@ -1,17 +1,20 @@
 -- Where every star of the slice is valid, a star is valid exactly if its index is inside the slice. Assumes nothing.
-use Prim.Native.Nat.{ℕ, zero, suc, ◌+◌, ◌*◌, ◌%◌, ◌≤◌}
+use Prim.Native.Nat.{ℕ, zero, suc, ◌+◌, ◌*◌, ◌%◌, ◌-◌, ◌≤◌}
 use mathlib.Core.Path.{◌≡◌, refl, sym, ap, ap₂, ◌∙◌}
 use mathlib.Core.Bool.{Bool, true, false, ◌&&◌}
-use mathlib.Core.List.{List}
+use mathlib.Core.List.{List, [], ◌∷◌}
 use native.Mathlib.Omega.{arith}
 use borrow.Author.Tests.{lt-ltb, ltb-true, leb-true}
 use lib.Dec.{leb, ltb, eqb}
-use lib.ListN.{length, get_or}
+use lib.ListN.{length, get_or, take, drop, length-drop}
+use lib.Seq.{get_or-drop}
+use native.Mathlib.Nat.{add-zero}
 use lib.Ieee.{Float, nan}
+use Rattle.std.specs.List.{list_all}
 use Rattle.pattern_entry.specs.FirstNo.{every}
 use Rattle.pattern_entry.specs.Stars.{stars_fit, star_count, unit, star_valid}
 use Rattle.pattern_entry.specs.StarsShortcuts.{every_star}
-use Rattle.pattern_entry.proofs.Every.{every_at, every_same, every_suc, both_r}
+use Rattle.pattern_entry.proofs.Every.{every_at, every_same, every_suc, both_r, all_three}
 
 and_assoc : (a b c d : Bool) → (((a && b) && c) && d) ≡ (a && (b && (c && d)))
 and_assoc true b c d = by b
@@ -37,6 +40,20 @@ triples u (suc n) =
 -- Component i of the slice is finite and of magnitude at most 1.
 abbrev pub unit_at : List Float → ℕ → Bool
 unit_at stars j = unit (get_or stars j nan)
+
+first_three : (xs : List Float) → 3 ≤ length xs → take 3 xs ≡ get_or xs 0 nan ∷ get_or xs 1 nan ∷ get_or xs 2 nan ∷ []
+first_three [] h = absurd (omega arith)
+first_three (a ∷ []) h = absurd (omega arith)
+first_three (a ∷ b ∷ []) h = absurd (omega arith)
+first_three (a ∷ b ∷ c ∷ xs) h = refl
+
+-- Testing the three components of star i one after another.
+pub three_units : (stars : List Float) (i : ℕ) → i * 3 + 3 ≤ length stars
+    → list_all unit (take (i * 3 + 3 - i * 3) (drop (i * 3) stars)) ≡ (unit_at stars (i * 3) && (unit_at stars (i * 3 + 1) && unit_at stars (i * 3 + 2)))
+three_units stars i h =
+    let e : i * 3 + 3 - i * 3 ≡ 3 = omega arith in
+    rw (e, first_three (drop (i * 3) stars) (omega (arith, length-drop (i * 3) stars)), get_or-drop, get_or-drop, get_or-drop, add-zero)
+    (all_three (unit_at stars (i * 3)) (unit_at stars (i * 3 + 1)) (unit_at stars (i * 3 + 2)))
 
 -- Testing the components one after another tests every star.
 pub every_component : (stars : List Float) → every (star_count stars * 3) (unit_at stars) ≡ every_star stars

@@ -3,6 +3,7 @@ pub mod Stars
 pub mod StarsShortcuts
 pub mod StarsClaims
 pub mod Entry
+pub mod StarIndices
 pub mod Validity
 pub mod ValidityShortcuts
 pub mod ValidityClaims

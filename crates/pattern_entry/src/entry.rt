@@ -1,6 +1,7 @@
 // The packed entries of the pattern table, of 22 bytes each: four star indices, the largest edge and the mark.
 ghost use Rattle.std.specs.Prelude.{◌≡◌, ◌+◌, ◌*◌, ◌≤◌, ◌<◌, length, get_or};
 ghost use Rattle.pattern_entry.specs.Entry.{word_at, half_at, mark_in, entry_read, bytes_at};
+ghost use Rattle.pattern_entry.specs.StarIndices.{stars_read};
 
 use crate::stars::StarIndex;
 
@@ -18,30 +19,18 @@ pub struct PatternEntry {
 fn byte(e: &[u8], i: usize) -> u8
     ensures { result ≡ get_or e.now i 0 }
 {
-    if i < e.len() { e[i] } else { 0 }
+    e.get(i).copied().unwrap_or(0)
 }
 
 // Returns the u32 that begins at byte `at`. Where all four bytes are there, one test suffices.
 pub fn word(e: &[u8], at: usize) -> u32
-    requires { at < 22 }
     ensures { result ≡ word_at e.now at }
 {
-    if at + 3 < e.len() {
-        return numeric::bits::u32_from_le_bytes([e[at], e[at + 1], e[at + 2], e[at + 3]]);
+    let rest = e.get(at..).unwrap_or(&[]);
+    if let [a, b, c, d, ..] = rest {
+        return u32::from_le_bytes([*a, *b, *c, *d]);
     }
-    numeric::bits::u32_from_le_bytes([
-        byte(e, at),
-        byte(e, at + 1),
-        byte(e, at + 2),
-        byte(e, at + 3),
-    ])
-}
-
-// Widens a byte to a u16.
-fn wide(b: u8) -> u16
-    ensures { (result ≡ b) × (result < 256) }
-{
-    b as u16
+    u32::from_le_bytes([byte(rest, 0), byte(rest, 1), byte(rest, 2), byte(rest, 3)])
 }
 
 // Returns the u16 that begins at byte `at`.
@@ -49,24 +38,34 @@ fn half(e: &[u8], at: usize) -> u16
     requires { at < 22 }
     ensures { result ≡ half_at e.now at }
 {
-    wide(byte(e, at)) + wide(byte(e, at + 1)) * 0x100
+    u16::from_le_bytes([byte(e, at), byte(e, at + 1)])
+}
+
+// Returns the four star indices that the bytes hold.
+pub fn star_indices(e: &[u8]) -> [StarIndex; 4]
+    ensures { result ≡ stars_read e.now }
+{
+    [0, 4, 8, 12].map(|at| StarIndex(word(e, at)))
 }
 
 // Returns the entry that the bytes hold. Its edge may be a NaN.
 pub fn read_packed(e: &[u8]) -> PatternEntry
     ensures { result ≡ entry_read e.now }
 {
-    let a = word(e, 0);
-    let b = word(e, 4);
-    let c = word(e, 8);
-    let d = word(e, 12);
-    let edge = numeric::bits::from_bits(word(e, 16));
-    let mark = half(e, 20);
     PatternEntry {
-        stars: [StarIndex(a), StarIndex(b), StarIndex(c), StarIndex(d)],
-        edge,
-        mark,
+        stars: star_indices(e),
+        edge: numeric::bits::from_bits(word(e, 16)),
+        mark: half(e, 20),
     }
+}
+
+// Returns the bytes of the entry at a place inside the section.
+pub fn bytes_at(packed: &[u8], place: u64) -> &[u8]
+    requires { place * 22 + 22 ≤ length packed.now }
+    ensures { result.now ≡ bytes_at packed.now place }
+{
+    let at = place as usize * 22;
+    &packed[at..at + 22]
 }
 
 // Returns the mark of the entry at a place inside the section.
@@ -75,5 +74,5 @@ pub fn mark_at(packed: &[u8], place: u64) -> u16
     ensures { result ≡ mark_in (bytes_at packed.now place) }
 {
     let at = place as usize * 22 + 20;
-    wide(packed[at]) + wide(packed[at + 1]) * 0x100
+    u16::from_le_bytes([packed[at], packed[at + 1]])
 }

@@ -27,17 +27,7 @@ pub fn star_valid(stars: &[f32], i: StarIndex) -> bool
 {
     let n = stars.len() / 3;
     let k = i.0 as usize;
-    if k >= n {
-        return false;
-    }
-    let at = k * 3;
-    if !is_unit(stars[at]) {
-        return false;
-    }
-    if !is_unit(stars[at + 1]) {
-        return false;
-    }
-    is_unit(stars[at + 2])
+    k < n && stars[k * 3..k * 3 + 3].iter().all(|x| is_unit(*x))
 }
 
 // Tells whether question 9 is answered yes for every star of the slice. The loop never ends early, so that a processor can test several
@@ -45,14 +35,11 @@ pub fn star_valid(stars: &[f32], i: StarIndex) -> bool
 pub fn every_star_valid(stars: &[f32]) -> bool
     ensures { result ≡ every_star stars.now }
 {
-    let n = stars.len() / 3 * 3;
     let mut valid = true;
-    let mut at: usize = 0;
-    while at < n {
-        if !is_unit(stars[at]) {
+    for x in &stars[..stars.len() / 3 * 3] {
+        if !is_unit(*x) {
             valid = false;
         }
-        at += 1;
     }
     valid
 }

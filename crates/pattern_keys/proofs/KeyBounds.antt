@@ -19,6 +19,8 @@ use Rattle.pattern_keys.specs.DistanceSortSteps.{Narrow}
 use Rattle.pattern_keys.specs.KeyBounds.{lower_of, upper_of, keys_for}
 use Rattle.pattern_keys.specs.Listed.{Has, here, there, Listed, Precedes, Ordered, ordered}
 use Rattle.pattern_keys.specs.KeyBoundsClaims.{KeysCount, ImageListed, ImageFirst}
+use Rattle.pattern_keys.specs.KeyRange.{Inside}
+use Rattle.pattern_keys.proofs.KeyRange.{inside_of}
 use Rattle.pattern_keys.proofs.KeyCount.{keys_length, has_some}
 use Rattle.pattern_keys.proofs.KeysExact.{keys_all}
 use Rattle.pattern_keys.proofs.ByDistance.{keys_ordered, none_before}
@@ -84,6 +86,10 @@ image_in_ranges r e B i t =
       fourth = (low_image (get_or r 3 nan) e B i.fourth t, image_high (get_or r 3 nan) e B i.fourth t);
       fifth = (low_image (get_or r 4 nan) e B i.fifth t, image_high (get_or r 4 nan) e B i.fifth t);
     }
+
+-- So the image key is in the middle of the ranges.
+pub image_inside : (r : List Float) (e : Float) (B : ℕ) → Ratios r → NarrowTolerance e B → Inside (key_of r B) (lower_of r e B) (upper_of r e B)
+image_inside r e B i t = inside_of _ _ _ (image_in_ranges r e B i t)
 
 pub image_listed : ImageListed
 unfolding keys_for

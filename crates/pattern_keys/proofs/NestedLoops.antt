@@ -1,16 +1,16 @@
 -- Laws of the nested loops: hashes and distances are added behind those that are there, and the loops list just the keys in the ranges.
 -- Assumes nothing.
 use mathlib.Core.Path.{◌≡◌, refl, sym, ap, ◌∙◌, subst}
-use mathlib.Core.Logic.{◌⊎◌, inl, inr}
+use mathlib.Core.Logic.{inl, inr}
 use Prim.Native.Nat.{ℕ, zero, suc, ◌+◌, ◌-◌, ◌*◌, ◌≤◌, ◌<◌, max}
 use native.Mathlib.Omega.{arith}
-use native.Mathlib.Nat.{le_trans, mul-le-mul}
+use native.Mathlib.Nat.{mul-le-mul}
 use mathlib.Core.List.{List, [], ◌∷◌, ◌++◌, map}
 use lib.ListN.{length, get_or, set, length-set, length-append, length-map, get_or-append}
 use lib.Seq.{get_or-set_same, get_or-set_other, get_or-append-add, get_or-take}
 use Rattle.numeric.proofs.Order.{lt_or_le}
 use Rattle.pattern.specs.Key.{hash_of, Parts}
-use Rattle.pattern_keys.specs.Keys.{concat_map, run, part_values, start, in_range, squared_difference, squared_distance, keys_of}
+use Rattle.pattern_keys.specs.Keys.{concat_map, run, part_values, start, in_range, squared_distance, keys_of}
 use Rattle.pattern_keys.specs.Listed.{Listed}
 use Rattle.pattern_keys.specs.DistanceSort.{by_distance}
 use Rattle.pattern_keys.specs.DistanceSortSteps.{Narrow, Holds, Near}
@@ -18,7 +18,7 @@ use Rattle.pattern_keys.proofs.Lists.{concat_map_append, concat_map_one, run_mor
 use Rattle.pattern_keys.proofs.KeyCount.{in_range_length}
 use Rattle.pattern_keys.proofs.NarrowRanges.{measured_near, by_distance_keys}
 use Rattle.pattern_keys.specs.EnumerateSteps.{Hashed}
-use Rattle.pattern_keys.specs.NestedLoops.{first, second, third, fourth, fifth, Enumerated}
+use Rattle.pattern_keys.specs.NestedLoops.{with_last, Enumerated}
 
 -- ---- keys that are added
 module _ (c : List ℕ) (B : ℕ) where
@@ -85,12 +85,6 @@ module _ (c : List ℕ) (B : ℕ) where
   loops_iteration g j a i k h d h' d' h'' d'' m r s p q =
       rw (run_more j a i k, concat_map_append g (run j a i k) (set k j (a + i) ∷ []), concat_map_one g (set k j (a + i))) (enumerated_chain h d h' d' h'' d'' m r s (concat_map g (run j a i k)) (g (set k j (a + i))) p q)
 
-  -- One value of the last part is added.
-  pub last_iteration : (j a i : ℕ) (k h d h' d' : List ℕ) (m r u v : ℕ) → r < 1024 → u ≡ hash_of (set k j (a + i)) B → v ≡ squared_distance c (set k j (a + i)) → Enumerated c B h d h' d' m r (run j a i k)
-      → Enumerated c B h d (set h' r u) (set d' r v) m (r + 1) (run j a (i + 1) k)
-  last_iteration j a i k h d h' d' m r u v w e f p =
-      rw (run_more j a i k) (enumerated_chain h d h' d' (set h' r u) (set d' r v) m r (r + 1) (run j a i k) (set k j (a + i) ∷ []) p (enumerated_one h' d' r u v (set k j (a + i)) w p.wide p.long e f))
-
 -- ---- room
 run_part : (g : List ℕ → List (List ℕ)) (j a i t : ℕ) (k : List ℕ) → length (concat_map g (run j a i k)) ≤ length (concat_map g (run j a (i + t) k))
 run_part g j a i zero k = let e : i ≡ i + 0 = omega arith in omega (arith, ap (λ (z : ℕ). length (concat_map g (run j a z k))) e)
@@ -140,53 +134,36 @@ parts_set k B j v h p =
         go (suc i) zero (x ∷ k) q = q
         go (suc i) (suc j) (x ∷ k) q = go i j k q
 
-pub listed_small : (lo hi c : List ℕ) (B : ℕ) → Listed lo hi c → Parts hi B → Parts c B
-listed_small lo hi c B l p =
-    subst (λ (y : List ℕ). Parts y B) (sym l.is)
-    (record {
-      few = p.few;
-      first = le_trans l.first.1 p.first;
-      second = le_trans l.second.1 p.second;
-      third = le_trans l.third.1 p.third;
-      fourth = le_trans l.fourth.1 p.fourth;
-      fifth = le_trans l.fifth.1 p.fifth;
-    })
-
 pub zeros : (hi : List ℕ) (B : ℕ) → Parts hi B → Parts (0 ∷ 0 ∷ 0 ∷ 0 ∷ 0 ∷ []) B
 zeros hi B p = record { few = p.few; first = omega arith; second = omega arith; third = omega arith; fourth = omega arith; fifth = omega arith }
 
+pub part_at : (k : List ℕ) (B j : ℕ) → Parts k B → j < 5 → get_or k j 0 ≤ B
+part_at k B zero p h = p.first
+part_at k B (suc zero) p h = p.second
+part_at k B (suc (suc zero)) p h = p.third
+part_at k B (suc (suc (suc zero))) p h = p.fourth
+part_at k B (suc (suc (suc (suc zero)))) p h = p.fifth
+part_at k B (suc (suc (suc (suc (suc j))))) p h = absurd (omega arith)
+
 -- ---- the values of a part
-pub value_in : (a i n hi B : ℕ) → i < n → n ≡ suc hi - a → hi ≤ B → a + i ≤ B
-value_in a i n hi B h e p = omega arith
+-- The values of a part from a to b, and the loops below it.
+pub with_last_is : (n : ℕ) (lo hi k : List ℕ) (a i : ℕ) → a ≡ max (get_or lo (4 - n) 0) (get_or k (4 - n - 1) 0) → i ≡ suc (get_or hi (4 - n) 0) - a
+    → concat_map (with_last n lo hi) (run (4 - n) a i k) ≡ with_last (suc n) lo hi k
+unfolding with_last
+with_last_is n lo hi k a i p q = ap (concat_map (with_last n lo hi)) (part_values_run (4 - n - 1) (4 - n) (get_or lo (4 - n) 0) (get_or hi (4 - n) 0) a i k p q)
 
-pub fifth_is : (lo hi k : List ℕ) (a n : ℕ) → a ≡ max (get_or lo 4 0) (get_or k 3 0) → n ≡ suc (get_or hi 4 0) - a → run 4 a n k ≡ fifth lo hi k
-unfolding fifth
-fifth_is lo hi k a n p q = part_values_run 3 4 (get_or lo 4 0) (get_or hi 4 0) a n k p q
-
-pub fourth_is : (lo hi k : List ℕ) (a n : ℕ) → a ≡ max (get_or lo 3 0) (get_or k 2 0) → n ≡ suc (get_or hi 3 0) - a → concat_map (fifth lo hi) (run 3 a n k) ≡ fourth lo hi k
-unfolding fourth
-fourth_is lo hi k a n p q = ap (concat_map (fifth lo hi)) (part_values_run 2 3 (get_or lo 3 0) (get_or hi 3 0) a n k p q)
-
-pub third_is : (lo hi k : List ℕ) (a n : ℕ) → a ≡ max (get_or lo 2 0) (get_or k 1 0) → n ≡ suc (get_or hi 2 0) - a → concat_map (fourth lo hi) (run 2 a n k) ≡ third lo hi k
-unfolding third
-third_is lo hi k a n p q = ap (concat_map (fourth lo hi)) (part_values_run 1 2 (get_or lo 2 0) (get_or hi 2 0) a n k p q)
-
-pub second_is : (lo hi k : List ℕ) (a n : ℕ) → a ≡ max (get_or lo 1 0) (get_or k 0 0) → n ≡ suc (get_or hi 1 0) - a → concat_map (third lo hi) (run 1 a n k) ≡ second lo hi k
-unfolding second
-second_is lo hi k a n p q = ap (concat_map (third lo hi)) (part_values_run 0 1 (get_or lo 1 0) (get_or hi 1 0) a n k p q)
-
-pub first_is : (lo hi k : List ℕ) (a n : ℕ) → a ≡ max (get_or lo 0 0) (get_or k 0 0) → n ≡ suc (get_or hi 0 0) - a → concat_map (second lo hi) (run 0 a n k) ≡ first lo hi k
-unfolding first
-first_is lo hi k a n p q = ap (concat_map (second lo hi)) (part_values_run 0 0 (get_or lo 0 0) (get_or hi 0 0) a n k p q)
+-- The same in the terms of the code: part j is the first of the last n, and the loop has gone over i values from a on.
+pub loop_is : (n : ℕ) (lo hi k : List ℕ) (j a i : ℕ) → 0 < n → j ≡ 5 - n → a ≡ max (get_or lo j 0) (get_or k (j - 1) 0) → i ≡ suc (get_or hi j 0) - a
+    → concat_map (with_last (n - 1) lo hi) (run j a i k) ≡ with_last n lo hi k
+loop_is zero lo hi k j a i h e p q = absurd (omega arith)
+loop_is (suc n) lo hi k j a i h e p q =
+    let f : j ≡ 4 - n = omega arith in
+    let g : suc n - 1 ≡ n = omega arith in
+    rw (f, g) (with_last_is n lo hi k a i (rw f at p) (rw f at q))
 
 -- ---- the square of a difference
-product_below : (d : ℕ) → d ≤ 4096 → d * d ≤ 16777216
+pub product_below : (d : ℕ) → d ≤ 4096 → d * d ≤ 16777216
 product_below d h = let m = mul-le-mul h h in omega arith
-
-pub squared_difference_is : (x y d : ℕ) → x ≤ 4096 → y ≤ 4096 → ((x < y) × (d ≡ y - x)) ⊎ ((y ≤ x) × (d ≡ x - y)) → (d * d ≡ squared_difference x y) × (d * d ≤ 16777216)
-unfolding squared_difference
-squared_difference_is x y d X Y (inl p) = let e : d ≡ x - y + (y - x) = omega arith in (ap (λ (z : ℕ). z * z) e, product_below d (omega arith))
-squared_difference_is x y d X Y (inr p) = let e : d ≡ x - y + (y - x) = omega arith in (ap (λ (z : ℕ). z * z) e, product_below d (omega arith))
 
 -- ---- the enumeration lists the keys in the ranges
 concat_map_concat_map : (g f : List ℕ → List (List ℕ)) (ks : List (List ℕ)) → concat_map g (concat_map f ks) ≡ concat_map (λ (k : List ℕ). concat_map g (f k)) ks
@@ -194,8 +171,14 @@ unfolding concat_map
 concat_map_concat_map g f [] = refl
 concat_map_concat_map g f (k ∷ ks) = concat_map_append g (f k) (concat_map f ks) ∙ ap (λ (z : List (List ℕ)). concat_map g (f k) ++ z) (concat_map_concat_map g f ks)
 
-pub loops_is : (lo hi : List ℕ) → first lo hi (0 ∷ 0 ∷ 0 ∷ 0 ∷ 0 ∷ []) ≡ in_range lo hi
-unfolding first second third fourth fifth in_range
+-- A loop that adds the key alone adds nothing else.
+concat_map_same : (ks : List (List ℕ)) → concat_map (λ (k : List ℕ). k ∷ []) ks ≡ ks
+unfolding concat_map
+concat_map_same [] = refl
+concat_map_same (k ∷ ks) = ap (λ (l : List (List ℕ)). k ∷ l) (concat_map_same ks)
+
+pub loops_is : (lo hi : List ℕ) → with_last 5 lo hi (0 ∷ 0 ∷ 0 ∷ 0 ∷ 0 ∷ []) ≡ in_range lo hi
+unfolding with_last in_range
 loops_is lo hi =
     let s0 = part_values 0 0 (get_or lo 0 0) (get_or hi 0 0) in
     let s1 = part_values 0 1 (get_or lo 1 0) (get_or hi 1 0) in
@@ -205,14 +188,17 @@ loops_is lo hi =
     let l0 = concat_map s0 start in
     let l1 = concat_map s1 l0 in
     let l2 = concat_map s2 l1 in
-    sym (concat_map_one (first lo hi) (0 ∷ 0 ∷ 0 ∷ 0 ∷ 0 ∷ []))
-    ∙ sym (concat_map_concat_map (second lo hi) s0 start)
-    ∙ sym (concat_map_concat_map (third lo hi) s1 l0)
-    ∙ sym (concat_map_concat_map (fourth lo hi) s2 l1)
-    ∙ sym (concat_map_concat_map s4 s3 l2)
+    let l3 = concat_map s3 l2 in
+    sym (concat_map_one (with_last 5 lo hi) (0 ∷ 0 ∷ 0 ∷ 0 ∷ 0 ∷ []))
+    ∙ sym (concat_map_concat_map (with_last 4 lo hi) s0 start)
+    ∙ sym (concat_map_concat_map (with_last 3 lo hi) s1 l0)
+    ∙ sym (concat_map_concat_map (with_last 2 lo hi) s2 l1)
+    ∙ sym (concat_map_concat_map (with_last 1 lo hi) s3 l2)
+    ∙ sym (concat_map_concat_map (with_last 0 lo hi) s4 l3)
+    ∙ concat_map_same (concat_map s4 l3)
 
 -- ---- the sorted hashes
-module _ (c lo hi : List ℕ) (B : ℕ) (w : Narrow lo hi) (l : Listed lo hi c) (h d hashes dist : List ℕ) (n : ℕ) (p : Enumerated c B h d hashes dist 0 n (first lo hi (0 ∷ 0 ∷ 0 ∷ 0 ∷ 0 ∷ []))) where
+module _ (c lo hi : List ℕ) (B : ℕ) (w : Narrow lo hi) (l : Listed lo hi c) (h d hashes dist : List ℕ) (n : ℕ) (p : Enumerated c B h d hashes dist 0 n (with_last 5 lo hi (0 ∷ 0 ∷ 0 ∷ 0 ∷ 0 ∷ []))) where
   q : Enumerated c B h d hashes dist 0 n (in_range lo hi)
   q = subst (λ (y : List (List ℕ)). Enumerated c B h d hashes dist 0 n y) (loops_is lo hi) p
 

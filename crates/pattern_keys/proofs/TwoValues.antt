@@ -1,20 +1,32 @@
 -- The test of a range for at most two values, and what it says of all five ranges. Assumes nothing.
 use Prim.Native.Nat.{ℕ, ◌+◌}
-use mathlib.Core.Path.{◌≡◌, sym, ap, ◌∙◌}
+use mathlib.Core.Path.{◌≡◌, refl, ap}
 use mathlib.Core.Bool.{Bool, true, false, ◌&&◌}
-use mathlib.Core.List.{List}
+use mathlib.Core.List.{List, [], ◌∷◌}
 use borrow.Author.Tests.{leb-true}
-use lib.ListN.{get_or}
+use lib.ListN.{length, get_or}
+use Rattle.std.specs.List.{list_all, zip}
+use Rattle.pattern.proofs.ListsEqual.{five_elements}
 use Rattle.numeric.proofs.Tests.{both}
 use Rattle.pattern_keys.specs.Codes.{Two}
 use Rattle.pattern_keys.specs.TwoValues.{pair_of, two_at_most}
 
--- The five tests, one after the other.
-pub no_first : (a b : Bool) → a ≡ false → false ≡ a && b
-no_first a b e = ap (λ (x : Bool). x && b) (sym e)
+-- Whether a pair of ends has at most two values between them.
+abbrev pub narrow : ℕ × ℕ → Bool
+narrow p = pair_of p.0 p.1
 
-pub yes_first : (a b c : Bool) → a ≡ true → c ≡ b → c ≡ a && b
-yes_first a b c e h = h ∙ ap (λ (x : Bool). x && b) (sym e)
+and_true : (b : Bool) → (b && true) ≡ b
+and_true true = refl
+and_true false = refl
+
+five_pairs : (a b c d e v w x y z : ℕ)
+    → list_all narrow (zip (a ∷ b ∷ c ∷ d ∷ e ∷ []) (v ∷ w ∷ x ∷ y ∷ z ∷ [])) ≡ two_at_most (a ∷ b ∷ c ∷ d ∷ e ∷ []) (v ∷ w ∷ x ∷ y ∷ z ∷ [])
+unfolding two_at_most
+five_pairs a b c d e v w x y z = ap (λ (t : Bool). pair_of a v && (pair_of b w && (pair_of c x && (pair_of d y && t)))) (and_true (pair_of e z))
+
+-- The five tests, one after the other.
+pub all_narrow : (lo hi : List ℕ) → length lo ≡ 5 → length hi ≡ 5 → list_all narrow (zip lo hi) ≡ two_at_most lo hi
+all_narrow lo hi h k = rw (five_elements 0 lo h, five_elements 0 hi k) (five_pairs _ _ _ _ _ _ _ _ _ _)
 
 -- Where the test is true, all five ranges have at most two values.
 pub two_of : (lo hi : List ℕ) → two_at_most lo hi ≡ true → Two lo hi

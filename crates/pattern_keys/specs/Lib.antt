@@ -12,3 +12,4 @@ pub mod CodeOrder
 pub mod ValidCodes
 pub mod TwoValuesSteps
 pub mod TwoValues
+pub mod KeyRange

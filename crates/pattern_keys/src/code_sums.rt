@@ -1,5 +1,5 @@
 // The hash of each of the 32 codes. It is the hash of the lower ends, with bins^i added for each part i that is one above its lower end.
-ghost use Rattle.std.specs.Prelude.{◌≡◌, length};
+ghost use Rattle.std.specs.Prelude.{◌≡◌};
 ghost use Rattle.pattern.specs.Key.{Parts};
 ghost use Rattle.pattern_keys.specs.TwoValuesSteps.{Doubled, Room, Sums};
 
@@ -8,17 +8,14 @@ fn double(sums: &mut [u64; 32], n: usize, v: u64)
     requires { Room sums.old n v }
     ensures { Doubled sums.old sums.new n v }
 {
-    let mut i = 0;
-    while i < n {
-        let s = sums[i];
-        sums[n + i] = s + v;
-        i += 1;
+    for i in 0..n {
+        sums[n + i] = sums[i] + v;
     }
 }
 
 // Writes to `sums` the hashes of the 32 codes, for ranges with the lower ends lo.
 pub fn fill(lo: [u32; 5], bins: u32, sums: &mut [u64; 32])
-    requires { Parts lo bins × (length sums.old ≡ 32) }
+    requires { Parts lo bins }
     ensures { Sums sums.new lo bins 32 9223372036854775808 }
 {
     let b = bins as u64;

@@ -69,13 +69,7 @@ fn around(c: u64) -> [u64; 4]
 {
     let near = c as usize;
     let opposite = 31 - near;
-    let ones = ONES;
-    let twos = TWOS;
-    let p = ones[near];
-    let q = twos[near];
-    let s = twos[opposite];
-    let t = ones[opposite];
-    [p, q, s, t]
+    [ONES[near], TWOS[near], TWOS[opposite], ONES[opposite]]
 }
 
 // Unpacks `count` codes from `word` and adds the sums of those that are valid to the m values of `out`. Returns the new number of values.
@@ -88,27 +82,25 @@ fn add(
     out: &mut [u64; 1024],
     m: usize,
 ) -> usize
-    requires { (m + count < 1024) × (length out.old ≡ 1024) × (length sums.now ≡ 32) }
+    requires { m + count < 1024 }
     ensures { Put out.old out.new m result (chosen sums.now valid (unpack word count)) × (result ≤ m + count) }
 {
     let mut n = m;
-    let mut left = count;
     let mut w = word;
-    while 0 < left {
+    for _ in 0..count {
         let code = w % 32;
         w /= 32;
         out[n] = sums[code as usize];
         if (valid >> code as u32) % 2 == 1 {
             n += 1;
         }
-        left -= 1;
     }
     n
 }
 
 // Writes to `out` the sums of the valid codes, in the order around c, and returns their count.
 pub fn listed(c: u64, valid: u32, sums: &[u64; 32], out: &mut [u64; 1024]) -> usize
-    requires { (c < 32) × (length out.old ≡ 1024) × (length sums.now ≡ 32) }
+    requires { c < 32 }
     ensures { Put out.old out.new 0 result (chosen sums.now valid (codes_around c)) }
 {
     let w = around(c);

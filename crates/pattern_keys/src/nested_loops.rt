@@ -1,18 +1,19 @@
-// The keys in the ranges in lexicographic order, by five nested loops over their parts. The hash and the squared distance of each key are stored,
+// The keys in the ranges in lexicographic order, by nested loops over their parts. The hash and the squared distance of each key are stored,
 // the key itself is not.
-ghost use Rattle.std.specs.Prelude.{◌≡◌, suc, ◌+◌, ◌-◌, ◌≤◌, max, length};
+ghost use Rattle.std.specs.Prelude.{◌≡◌, ◌+◌, ◌<◌, ◌≤◌, length};
 ghost use Rattle.pattern.specs.Key.{Parts};
 ghost use Rattle.pattern_keys.specs.Keys.{squared_difference, squared_distance};
-ghost use Rattle.pattern_keys.specs.NestedLoops.{first, second, third, fourth, fifth, Enumerated};
+ghost use Rattle.pattern_keys.specs.NestedLoops.{with_last, Enumerated};
+
+use crate::key_range::KeyRange;
 
 // Returns the square of the difference of two parts.
 fn squared_difference(x: u32, y: u32) -> u64
     requires { (x ≤ 4096) × (y ≤ 4096) }
     ensures { (result ≡ squared_difference x y) × (result ≤ 16777216) }
 {
-    let d = if x < y { y - x } else { x - y };
-    let w = d as u64;
-    w * w
+    let d = x.abs_diff(y) as u64;
+    d * d
 }
 
 // Returns the squared distance of two keys.
@@ -27,159 +28,40 @@ fn squared_distance(c: [u32; 5], k: [u32; 5], bins: u32) -> u64
         + squared_difference(c[4], k[4])
 }
 
-// Returns the larger of two parts.
-fn larger(x: u32, y: u32) -> u32
-    ensures { result ≡ max x y }
-{
-    if x < y { y } else { x }
+// The hash and the squared distance of each key so far, with room for the most that there can be.
+#[derive(Drop)]
+pub struct Measured {
+    pub hashes: [u64; 1024],
+    pub dist: [u64; 1024],
+    pub count: usize,
 }
 
-// Returns how many values there are from a to hi.
-fn values(a: u32, hi: u32) -> u32
-    requires { hi ≤ 4096 }
-    ensures { result ≡ suc hi - a }
-{
-    if a <= hi { hi - a + 1 } else { 0 }
-}
-
-// Goes over the values of the fifth part of k. For each key it adds the hash and the squared distance from c to the m that the arrays have.
-// Returns how many they then have.
-fn fifth(
-    k: [u32; 5],
-    c: [u32; 5],
-    lo: [u32; 5],
-    hi: [u32; 5],
-    bins: u32,
-    hashes: &mut [u64; 1024],
-    dist: &mut [u64; 1024],
-    m: usize,
-) -> usize
-    requires { Parts c bins × Parts hi bins × Parts k bins × (m + length (fifth lo hi k) ≤ 1024) × (length hashes.old ≡ 1024) × (length dist.old ≡ 1024) }
-    ensures { Enumerated c bins hashes.old dist.old hashes.new dist.new m result (fifth lo hi k) }
-{
-    let a = larger(lo[4], k[3]);
-    let n = values(a, hi[4]);
-    let mut i: u32 = 0;
-    let mut at = m;
-    while i < n {
-        let mut x = k;
-        x[4] = a + i;
-        hashes[at] = pattern::key::compute_pattern_key_hash(x, bins);
-        dist[at] = squared_distance(c, x, bins);
-        at += 1;
-        i += 1;
+impl Measured {
+    // Adds the key k of the ranges.
+    fn push(&mut self, k: [u32; 5], ranges: &KeyRange)
+        requires { Parts k ranges.now.bins × (self.old.count < 1024) }
+        ensures { Enumerated ranges.now.centre ranges.now.bins self.old.hashes self.old.dist self.new.hashes self.new.dist self.old.count self.new.count (with_last 0 ranges.now.lo ranges.now.hi k) }
+    {
+        let at = self.count;
+        self.hashes[at] = pattern::key::compute_pattern_key_hash(k, ranges.bins);
+        self.dist[at] = squared_distance(ranges.centre, k, ranges.bins);
+        self.count = at + 1;
     }
-    at
 }
 
-// Goes over the values of the fourth part of k, and for each over those of the fifth. It adds and returns what `fifth` does.
-fn fourth(
-    k: [u32; 5],
-    c: [u32; 5],
-    lo: [u32; 5],
-    hi: [u32; 5],
-    bins: u32,
-    hashes: &mut [u64; 1024],
-    dist: &mut [u64; 1024],
-    m: usize,
-) -> usize
-    requires { Parts c bins × Parts hi bins × Parts k bins × (m + length (fourth lo hi k) ≤ 1024) × (length hashes.old ≡ 1024) × (length dist.old ≡ 1024) }
-    ensures { Enumerated c bins hashes.old dist.old hashes.new dist.new m result (fourth lo hi k) }
+// Goes over the values of the first of the last n parts of k, and for each over those of the parts after it. Adds each key to `found`.
+pub fn add_keys(k: [u32; 5], n: usize, ranges: &KeyRange, found: &mut Measured)
+    requires { (n ≤ 5) × Parts k ranges.now.bins × (found.old.count + length (with_last n ranges.now.lo ranges.now.hi k) ≤ 1024) }
+    ensures { Enumerated ranges.now.centre ranges.now.bins found.old.hashes found.old.dist found.new.hashes found.new.dist found.old.count found.new.count (with_last n ranges.now.lo ranges.now.hi k) }
 {
-    let a = larger(lo[3], k[2]);
-    let n = values(a, hi[3]);
-    let mut i: u32 = 0;
-    let mut at = m;
-    while i < n {
-        let mut x = k;
-        x[3] = a + i;
-        let r = fifth(x, c, lo, hi, bins, hashes, dist, at);
-        at = r;
-        i += 1;
+    if n == 0 {
+        found.push(k, ranges);
+        return;
     }
-    at
-}
-
-// Goes over the values of the third part of k, and for each over those of the fourth and the fifth. It adds and returns what `fifth` does.
-fn third(
-    k: [u32; 5],
-    c: [u32; 5],
-    lo: [u32; 5],
-    hi: [u32; 5],
-    bins: u32,
-    hashes: &mut [u64; 1024],
-    dist: &mut [u64; 1024],
-    m: usize,
-) -> usize
-    requires { Parts c bins × Parts hi bins × Parts k bins × (m + length (third lo hi k) ≤ 1024) × (length hashes.old ≡ 1024) × (length dist.old ≡ 1024) }
-    ensures { Enumerated c bins hashes.old dist.old hashes.new dist.new m result (third lo hi k) }
-{
-    let a = larger(lo[2], k[1]);
-    let n = values(a, hi[2]);
-    let mut i: u32 = 0;
-    let mut at = m;
-    while i < n {
+    let j = 5 - n;
+    for v in ranges.lo[j].max(k[j.saturating_sub(1)])..ranges.hi[j] + 1 {
         let mut x = k;
-        x[2] = a + i;
-        let r = fourth(x, c, lo, hi, bins, hashes, dist, at);
-        at = r;
-        i += 1;
+        x[j] = v;
+        add_keys(x, n - 1, ranges, found);
     }
-    at
-}
-
-// Goes over the values of the second part of k, and for each over those of the parts after it. It adds and returns what `fifth` does.
-fn second(
-    k: [u32; 5],
-    c: [u32; 5],
-    lo: [u32; 5],
-    hi: [u32; 5],
-    bins: u32,
-    hashes: &mut [u64; 1024],
-    dist: &mut [u64; 1024],
-    m: usize,
-) -> usize
-    requires { Parts c bins × Parts hi bins × Parts k bins × (m + length (second lo hi k) ≤ 1024) × (length hashes.old ≡ 1024) × (length dist.old ≡ 1024) }
-    ensures { Enumerated c bins hashes.old dist.old hashes.new dist.new m result (second lo hi k) }
-{
-    let a = larger(lo[1], k[0]);
-    let n = values(a, hi[1]);
-    let mut i: u32 = 0;
-    let mut at = m;
-    while i < n {
-        let mut x = k;
-        x[1] = a + i;
-        let r = third(x, c, lo, hi, bins, hashes, dist, at);
-        at = r;
-        i += 1;
-    }
-    at
-}
-
-// Goes over the values of the first part of k, and for each over those of the parts after it. It adds and returns what `fifth` does.
-pub fn first(
-    k: [u32; 5],
-    c: [u32; 5],
-    lo: [u32; 5],
-    hi: [u32; 5],
-    bins: u32,
-    hashes: &mut [u64; 1024],
-    dist: &mut [u64; 1024],
-    m: usize,
-) -> usize
-    requires { Parts c bins × Parts hi bins × Parts k bins × (m + length (first lo hi k) ≤ 1024) × (length hashes.old ≡ 1024) × (length dist.old ≡ 1024) }
-    ensures { Enumerated c bins hashes.old dist.old hashes.new dist.new m result (first lo hi k) }
-{
-    let a = larger(lo[0], k[0]);
-    let n = values(a, hi[0]);
-    let mut i: u32 = 0;
-    let mut at = m;
-    while i < n {
-        let mut x = k;
-        x[0] = a + i;
-        let r = second(x, c, lo, hi, bins, hashes, dist, at);
-        at = r;
-        i += 1;
-    }
-    at
 }

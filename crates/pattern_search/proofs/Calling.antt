@@ -3,9 +3,8 @@ use mathlib.Core.Path.{◌≡◌, sym, ◌∙◌, ap, subst}
 use Prim.Native.Nat.{ℕ, ◌<◌}
 use mathlib.Core.Bool.{Bool, true, false}
 use mathlib.Core.List.{List}
-use mathlib.Core.Option.{Option, none, some}
+use Rattle.std.specs.Prelude.{Option, None, Some, Result, Err}
 use lib.Ieee.{Float}
-use Rattle.candidates.specs.NoCandidate.{no_candidate}
 use Rattle.candidates.specs.declared.entry_tests.Candidate.{Candidate}
 use Rattle.undivided_run.specs.declared.state.State.{State}
 use Rattle.undivided_run.specs.declared.state.Cursor.{Cursor}
@@ -22,13 +21,14 @@ use Rattle.search_feed.specs.Feed.{feed}
 use Rattle.search_cache.specs.Cache.{PassCacheValid, CombinationCacheValid}
 use Rattle.search_cache.specs.declared.pass.Cache.{Cache}
 use Rattle.search_feed.proofs.WithinLimits.{every_combination_keyed, within_limits}
-use Rattle.search_questions.specs.Questions.{first_seven, first_no, asked_of}
-use Rattle.pattern_search.specs.Answers.{lent_of, said, shown, searched}
+use Rattle.search_questions.specs.Questions.{first_seven, first_no}
+use Rattle.pattern_search.specs.Answers.{lent_of, said, searched}
 use Rattle.pattern_search.specs.Iteration.{Ready}
 use Rattle.pattern_search.specs.declared.Searched.{Searched}
-use Rattle.search_questions.specs.declared.questions_1_to_7.Questions1To7.{Questions1To7}
-use Rattle.search_questions.specs.declared.questions_1_to_7.Questions1To7.TheVariants.{No}
-use Rattle.pattern_search.specs.declared.Answer.TheVariants.{Refused}
+use Rattle.question.specs.Question.{number_of, refused_by}
+use Rattle.question.specs.declared.Question.{Question}
+use Rattle.question.specs.declared.Question.TheVariants.{SavedState}
+use Rattle.question.proofs.Numbers.{question_again}
 use Rattle.search_questions.proofs.Questions1To7.{seven_asked, seven_table}
 
 module _ (D : Data) (st : State) (a : ℕ) where
@@ -39,19 +39,19 @@ module _ (D : Data) (st : State) (a : ℕ) where
   answer = search_call st (lent_of D a)
 
   -- One of questions 1 to 7 refuses the call.
-  pub call_seven : (k : ℕ) (x : Questions1To7) → asked_of x ≡ seven → x ≡ No k → (y : Searched) → y ≡ record { answer = Refused k; candidate = no_candidate; state = st } → y ≡ searched answer
-  unfolding search_call lent_of first_no cases said shown
-  call_seven k x xe e y ye =
-      let s : seven ≡ some k = sym xe ∙ ap asked_of e in
-      ye ∙ rw s
+  pub call_seven : (q : Question) (x : Result (Unit {0}) Question) → refused_by x ≡ seven → x ≡ Err q → record { answer = Err q; state = st } ≡ searched answer
+  unfolding search_call lent_of first_no cases said
+  call_seven q x xe e =
+      let s : seven ≡ Some (number_of q) = sym xe ∙ ap refused_by e in
+      rw s (ap (λ z. record { answer = Err z; state = st }) (sym (question_again q)))
 
-  module _ (s : seven ≡ none) (b : Bool) (be : b ≡ state_fits (feed D) st) where
+  module _ (s : seven ≡ None) (b : Bool) (be : b ≡ state_fits (feed D) st) where
     -- Question 8 refuses the call.
-    pub call_eight : b ≡ false → (y : Searched) → y ≡ record { answer = Refused 8; candidate = no_candidate; state = st } → y ≡ searched answer
-    unfolding search_call lent_of first_no cases said shown
-    call_eight e y ye =
+    pub call_eight : b ≡ false → record { answer = Err SavedState; state = st } ≡ searched answer
+    unfolding search_call lent_of first_no cases said
+    call_eight e =
         let o : state_fits (feed D) st ≡ false = sym be ∙ e in
-        ye ∙ rw (s, o)
+        rw (s, o)
 
     module _ (e : b ≡ true) where
       passed : answer ≡ search (feed D) D.frame.config.cap st a

@@ -6,7 +6,7 @@ use native.Mathlib.Omega.{arith}
 use mathlib.Core.List.{List, [], ◌∷◌, ◌++◌, map}
 use lib.ListN.{drop}
 use mathlib.Core.Bool.{Bool, true, false, cond}
-use mathlib.Core.Option.{Option, none, some}
+use Rattle.std.specs.Prelude.{Option, None, Some}
 use Rattle.candidates.specs.declared.entry_tests.Candidate.{Candidate}
 use Rattle.preprocess.specs.Questions.{centroids_fit, coordinates_fit}
 use Rattle.preprocess.specs.BrightnessList.{order_fits}
@@ -44,7 +44,7 @@ use Rattle.search_questions.proofs.Questions1To7.{seven_asked, seven_table}
 replies_calls : (st : State) (gs : List Given) → answers_of (replies st gs) ≡ (calls search_call st (map lent_by gs)).0
 unfolding replies calls
 replies_calls st [] = refl
-replies_calls st (g ∷ gs) = ap₂ ◌∷◌ (says (search_call st (lent_by g))) (replies_calls (returned st g).state gs)
+replies_calls st (g ∷ gs) = ap₂ ◌∷◌ (says st g) (replies_calls (returned st g).state gs)
 
 last_calls : (st : State) (gs : List Given) → last_state st gs ≡ (calls search_call st (map lent_by gs)).1
 unfolding last_state calls
@@ -58,34 +58,34 @@ reads_a_slot st g h p = by (progress_any st (lent_by g) h p)
   where
     by : (st.reads < (search_call st (lent_by g)).1.reads) ⊎ ((s : Status) × (resume (first_read (feed g.lent_data) g.lent_data.frame.config.cap) st.phase ≡ Ends s) × ((search_call st (lent_by g)).0 ≡ over s)) → (st.reads < (returned st g).state.reads) ⊎ ((s : Status) × (resume (first_read (feed g.lent_data) g.lent_data.frame.config.cap) st.phase ≡ Ends s) × (searched_says (returned st g) ≡ over s))
     by (inl l) = inl l
-    by (inr (s, e, o)) = inr (s, e, says (search_call st (lent_by g)) ∙ o)
+    by (inr (s, e, o)) = inr (s, e, says st g ∙ o)
 
 pub uses_its_allowance : UsesItsAllowance
 unfolding lent_of
-uses_its_allowance st g h = used_exactly st (lent_by g) (sym (says (search_call st (lent_by g))) ∙ h)
+uses_its_allowance st g h = used_exactly st (lent_by g) (sym (says st g) ∙ h)
 
 pub zero_allowance : ZeroAllowance
-zero_allowance st g z = subst (NoReadMade st (lent_by g)) (sym (replied (search_call st (lent_by g)))) (zero_keeps st (lent_by g) (unfold lent_of in z))
+zero_allowance st g z = subst (NoReadMade st (lent_by g)) (sym (replied st g)) (zero_keeps st (lent_by g) (unfold lent_of in z))
 
 -- ---- Where a call is not refused, questions 1 to 7 are answered yes.
-asked_none : (st : State) (x : Lent (List ℕ) Candidate) → refusal_of st x ≡ none → x.asked st ≡ none
+asked_none : (st : State) (x : Lent (List ℕ) Candidate) → refusal_of st x ≡ None → x.asked st ≡ None
 unfolding refusal_of cases
 asked_none st x h = by (x.asked st) h
   where
-    by : (o : Option ℕ) → cases o (cond (question9_refuses st x) (some 9) none) (λ k. some k) ≡ none → o ≡ none
-    by none e = refl
-    by (some k) e = absurd (let z : ◌≡◌ {A = ℕ} 0 1 = cc in omega arith)
+    by : (o : Option ℕ) → cases o (cond (question9_refuses st x) (Some 9) None) (λ k. Some k) ≡ None → o ≡ None
+    by None e = refl
+    by (Some k) e = absurd (let z : ◌≡◌ {A = ℕ} 0 1 = cc in omega arith)
 
-seven_none : (D : Data) (st : State) → first_no D st ≡ none → first_seven D.frame D.slots D.words D.stars ≡ none
+seven_none : (D : Data) (st : State) → first_no D st ≡ None → first_seven D.frame D.slots D.words D.stars ≡ None
 unfolding first_no cases
 seven_none D st h = by (first_seven D.frame D.slots D.words D.stars) _ h
   where
-    by : (o p : Option ℕ) → cases o p (λ n. some n) ≡ none → o ≡ none
-    by none p e = refl
-    by (some k) p e = absurd (let z : ◌≡◌ {A = ℕ} 0 1 = cc in omega arith)
+    by : (o p : Option ℕ) → cases o p (λ n. Some n) ≡ None → o ≡ None
+    by None p e = refl
+    by (Some k) p e = absurd (let z : ◌≡◌ {A = ℕ} 0 1 = cc in omega arith)
 
 module _ (D : Data) where
-  keyed_by : (st : State) (g : Given) → g.lent_data ≡ D → refusal_of st (lent_by g) ≡ none → Keyed (feed D)
+  keyed_by : (st : State) (g : Given) → g.lent_data ≡ D → refusal_of st (lent_by g) ≡ None → Keyed (feed D)
   unfolding lent_of
   keyed_by st g e h =
       let s = seven_none g.lent_data st (asked_none st (lent_by g) h) in
@@ -143,9 +143,9 @@ reads_on_the_run D o gs h g e n p =
 
     by : MovesOn (feed D) D.frame.config.cap (last_state start gs) (lent_by g) → (st.reads < (returned st g).state.reads) ⊎ ((drop st.reads (run D).reads ≡ []) × (searched_says (returned st g) ≡ over (run D).status))
     by (inl l) = inl l
-    by (inr (z, w)) = inr (z, says (search_call st (lent_by g)) ∙ w)
+    by (inr (z, w)) = inr (z, says st g ∙ w)
 
-clear : (D : Data) (st : State) → first_seven D.frame D.slots D.words D.stars ≡ none → state_fits (feed D) st ≡ true → first_no D st ≡ none
+clear : (D : Data) (st : State) → first_seven D.frame D.slots D.words D.stars ≡ None → state_fits (feed D) st ≡ true → first_no D st ≡ None
 unfolding first_no cases
 clear D st s e = rw (s, e)
 
@@ -157,40 +157,40 @@ never_refused D o s gs h g e =
     let z = eight (feed D) D.frame.config.cap (opened_valid D o) (every_combination_keyed D q) (within_limits D q (seven_table _ _ _ _ s)) (map lent_by gs) (fed_alike D start gs h) in
     let y : state_fits (feed D) st ≡ true = rw (last_calls start gs) (eight_holds (feed D) _ _ _ z) in
     never_nine (feed D) D.frame.config.cap (opened_valid D o) st (lent_by g) (ap (λ X. feed X) e)
-    (subst (λ X. first_no X st ≡ none) (sym e) (clear D st s y))
+    (subst (λ X. first_no X st ≡ None) (sym e) (clear D st s y))
 
 -- ---- the read that a candidate was given by
-eight_true_of : (D : Data) (st : State) → first_no D st ≡ none → state_fits (feed D) st ≡ true
+eight_true_of : (D : Data) (st : State) → first_no D st ≡ None → state_fits (feed D) st ≡ true
 unfolding first_no cases
 eight_true_of D st h = by (first_seven D.frame D.slots D.words D.stars) (state_fits (feed D) st) h
   where
-    by : (o : Option ℕ) (b : Bool) → cases o (ask b (some 8) none) (λ n. some n) ≡ none → b ≡ true
+    by : (o : Option ℕ) (b : Bool) → cases o (ask b (Some 8) None) (λ n. Some n) ≡ None → b ≡ true
     by o true e = refl
-    by none false e = absurd (let z : ◌≡◌ {A = ℕ} 0 1 = cc in omega arith)
-    by (some k) false e = absurd (let z : ◌≡◌ {A = ℕ} 0 1 = cc in omega arith)
+    by None false e = absurd (let z : ◌≡◌ {A = ℕ} 0 1 = cc in omega arith)
+    by (Some k) false e = absurd (let z : ◌≡◌ {A = ℕ} 0 1 = cc in omega arith)
 
 pub candidate_read : CandidateRead
 unfolding lent_of search_call cases
-candidate_read st g x h = by (first_no g.lent_data st) refl (sym (says (search_call st (lent_by g))) ∙ h)
+candidate_read st g x h = by (first_no g.lent_data st) refl (sym (says st g) ∙ h)
   where
     D : Data
     D = g.lent_data
 
-    by : (o : Option ℕ) → first_no D st ≡ o → (cases o (search (feed D) D.frame.config.cap st g.allowance) λ k. (refused k, st)).0 ≡ candidate x → (first_seven D.frame D.slots D.words D.stars ≡ none) × (r : Position) × ReadExists (feed D) r × (valid_at (feed D) r ≡ true) × (gives (feed D) r ≡ some x)
-    by none n e =
+    by : (o : Option ℕ) → first_no D st ≡ o → (cases o (search (feed D) D.frame.config.cap st g.allowance) λ k. (refused k, st)).0 ≡ candidate x → (first_seven D.frame D.slots D.words D.stars ≡ None) × (r : Position) × ReadExists (feed D) r × (valid_at (feed D) r ≡ true) × (gives (feed D) r ≡ Some x)
+    by None n e =
         let s = seven_none D st n in
         let q = seven_asked _ _ _ _ s in
         let k = given_at (feed D) D.frame.config.cap (every_combination_keyed D q) x (within_limits D q (seven_table _ _ _ _ s)) st (eight_true (feed D) st.phase st.patterns st.reads (eight_true_of D st n)) g.allowance e in
         (s, k.0, k.1, k.2, k.3)
-    by (some k) n e = absurd (let z : ◌≡◌ {A = ℕ} 0 1 = cc in omega arith)
+    by (Some k) n e = absurd (let z : ◌≡◌ {A = ℕ} 0 1 = cc in omega arith)
 
 -- ---- What follows from the opening check alone.
-refused_by : (D : Data) (st : State) (a k : ℕ) → first_seven D.frame D.slots D.words D.stars ≡ some k → refusal_of st (lent_of D a) ≡ some k
+refused_by : (D : Data) (st : State) (a k : ℕ) → first_seven D.frame D.slots D.words D.stars ≡ Some k → refusal_of st (lent_of D a) ≡ Some k
 unfolding refusal_of lent_of first_no cases
 refused_by D st a k s = rw s
 
 -- Where questions 6 and 7 are answered yes, the first no of questions 1 to 7 is one of 1 to 5.
-five_first : (a b c d e f g : Bool) → f ≡ true → g ≡ true → let o : Option ℕ = ask a (some 1) (ask b (some 2) (ask c (some 3) (ask d (some 4) (ask e (some 5) (ask f (some 6) (ask g (some 7) none)))))) in (o ≡ none) ⊎ ((k : ℕ) × (o ≡ some k) × (k ≤ 5))
+five_first : (a b c d e f g : Bool) → f ≡ true → g ≡ true → let o : Option ℕ = ask a (Some 1) (ask b (Some 2) (ask c (Some 3) (ask d (Some 4) (ask e (Some 5) (ask f (Some 6) (ask g (Some 7) None)))))) in (o ≡ None) ⊎ ((k : ℕ) × (o ≡ Some k) × (k ≤ 5))
 five_first false b c d e f g p q = inr (1, refl, omega arith)
 five_first true false c d e f g p q = inr (2, refl, omega arith)
 five_first true true false d e f g p q = inr (3, refl, omega arith)
@@ -198,7 +198,7 @@ five_first true true true false e f g p q = inr (4, refl, omega arith)
 five_first true true true true false f g p q = inr (5, refl, omega arith)
 five_first true true true true true f g p q = inl (rw (p, q))
 
-opened_seven : (D : Data) → Opens D → (first_seven D.frame D.slots D.words D.stars ≡ none) ⊎ ((k : ℕ) × (first_seven D.frame D.slots D.words D.stars ≡ some k) × (k ≤ 5))
+opened_seven : (D : Data) → Opens D → (first_seven D.frame D.slots D.words D.stars ≡ None) ⊎ ((k : ℕ) × (first_seven D.frame D.slots D.words D.stars ≡ Some k) × (k ≤ 5))
 unfolding first_seven
 opened_seven D o =
     let p = passed _ _ _ _ o in
@@ -207,6 +207,6 @@ opened_seven D o =
 pub refused_at_most_five : RefusedAtMostFive
 refused_at_most_five D o gs h g e = by (opened_seven D o)
   where
-    by : (first_seven D.frame D.slots D.words D.stars ≡ none) ⊎ ((k : ℕ) × (first_seven D.frame D.slots D.words D.stars ≡ some k) × (k ≤ 5)) → (refusal_of (last_state start gs) (lent_by g) ≡ none) ⊎ ((k : ℕ) × (refusal_of (last_state start gs) (lent_by g) ≡ some k) × (k ≤ 5))
+    by : (first_seven D.frame D.slots D.words D.stars ≡ None) ⊎ ((k : ℕ) × (first_seven D.frame D.slots D.words D.stars ≡ Some k) × (k ≤ 5)) → (refusal_of (last_state start gs) (lent_by g) ≡ None) ⊎ ((k : ℕ) × (refusal_of (last_state start gs) (lent_by g) ≡ Some k) × (k ≤ 5))
     by (inl s) = inl (never_refused D o s gs h g e)
-    by (inr (k, s, l)) = inr (k, subst (λ X. refusal_of (last_state start gs) (lent_of X g.allowance) ≡ some k) (sym e) (refused_by D (last_state start gs) g.allowance k s), l)
+    by (inr (k, s, l)) = inr (k, subst (λ X. refusal_of (last_state start gs) (lent_of X g.allowance) ≡ Some k) (sym e) (refused_by D (last_state start gs) g.allowance k s), l)

@@ -5,7 +5,7 @@ use Prim.Native.Nat.{ℕ, ◌+◌, ◌-◌, ◌*◌, ◌/◌, ◌%◌, ◌≤◌
 use native.Mathlib.Omega.{arith}
 use mathlib.Core.Bool.{Bool, true, false, cond}
 use mathlib.Core.List.{List}
-use mathlib.Core.Option.{Option, none, some}
+use Rattle.std.specs.Prelude.{Option, None, Some, Result, Ok, Err}
 use lib.ListN.{length, get_or}
 use lib.Seq.{get_or-take}
 use lib.Ieee.{Float}
@@ -15,15 +15,12 @@ use Rattle.pattern_catalog.specs.Blocks.{table_fits, filled as slotFilled, place
 use Rattle.pattern_catalog.proofs.SlotRead.{fits_few}
 use Rattle.pattern_entry.specs.Entry.{bytes_at, entry_read}
 use Rattle.pattern_entry.specs.Validity.{entry_valid}
-use Rattle.candidates.specs.NoCandidate.{no_candidate}
 use Rattle.candidates.specs.declared.entry_tests.Candidate.{Candidate}
-use Rattle.candidates.specs.declared.entry_tests.Tested.{Tested}
-use Rattle.candidates.specs.declared.entry_tests.Tested.TheVariants.{PassedOver, Hit}
 use Rattle.undivided_run.specs.declared.state.Position.{Position}
 use Rattle.undivided_run.specs.declared.state.State.{State}
 use Rattle.undivided_run.specs.declared.state.Cursor.{Cursor}
 use Rattle.undivided_run.specs.declared.state.Status.{Status}
-use Rattle.undivided_run.specs.declared.state.Cap.{Cap}
+use Rattle.undivided_run.specs.Undivided.{Cap}
 use Rattle.undivided_run.specs.declared.state.Next.TheVariants.{Goes as goes, Ends as ends}
 use Rattle.undivided_run.specs.Undivided.{cases, is_some, filled, gives, slot_of}
 use Rattle.undivided_run.specs.Step.{phase_of, valid_at}
@@ -33,76 +30,67 @@ use Rattle.undivided_run.proofs.CallSteps.{good_after, good_room, iterate_ends, 
 use Rattle.search_feed.specs.Data.{Data}
 use Rattle.search_feed.specs.Image.{kept_places, kept_place, pass_of}
 use Rattle.search_feed.specs.Feed.{feed, entry_at, slot_at, tested_at, if_hit, candidate_of, places_of, hash_of_read}
-use Rattle.search_feed.specs.TableRead.{blank, places_in, made_candidate, evaluated_entry, table_read}
+use Rattle.search_feed.specs.TableRead.{places_in, made_candidate, evaluated_entry, table_read}
 use Rattle.search_feed.proofs.TableRead.{table_read_at}
 use Rattle.search_cache.specs.Cache.{PassCacheValid, CombinationCacheValid, LoadedPass, LoadedCombination}
 use Rattle.search_feed.specs.Claims.{FrameFits}
 use Rattle.search_cache.specs.declared.pass.Cache.{Cache}
-use Rattle.search_feed.specs.declared.ReadResult.{ReadResult}
+use Rattle.question.specs.Question.{number_of}
+use Rattle.question.specs.declared.Question.{Question}
+use Rattle.question.specs.declared.Question.TheVariants.{EntryAndStars}
 use Rattle.search_feed.specs.declared.ReadOutcome.{ReadOutcome}
-use Rattle.search_feed.specs.declared.ReadOutcome.TheVariants.{Empty, Invalid, Passed, Found}
+use Rattle.search_feed.specs.declared.ReadOutcome.TheVariants.{Empty, Passed, Found}
 use Rattle.search_feed.proofs.WithinLimits.{every_combination_keyed, fitting, keys_counted}
 use Rattle.search_step.specs.LoadedRead.{LoadedRead}
-use Rattle.pattern_search.specs.Answers.{said, shown}
-use Rattle.pattern_search.specs.Iteration.{stopping, going_on, refuses_of, saw_entry, iteration_after, Ready, Iterated, rest}
-use Rattle.pattern_search.specs.declared.Searched.{Searched}
+use Rattle.pattern_search.specs.Answers.{said}
+use Rattle.pattern_search.specs.Iteration.{saw_entry, iteration_after, Ready, Iterated, rest}
 use Rattle.pattern_search.specs.declared.Iteration.{Iteration}
-use Rattle.pattern_search.specs.declared.Answer.TheVariants.{Candidate as SaidCandidate, AllowanceUsed, Ended, Refused}
+use Rattle.pattern_search.specs.declared.Iteration.TheVariants.{Goes}
+use Rattle.question.proofs.Numbers.{number_once}
+use Rattle.pattern_search.specs.declared.Answer.TheVariants.{Candidate as SaidCandidate, AllowanceUsed, Ended}
 use Rattle.search_cache.proofs.Loaded.{kept_64, four_below}
 
 -- What the outcome of a read means: f is whether its slot is filled, s whether its entry is valid, g the candidate that it gives, if any.
-abbrev pub Means : ReadOutcome → Candidate → Bool → Bool → Option Candidate → Type 0
-Means Empty x f s g = (f ≡ false) × (s ≡ true) × (g ≡ none)
-Means Invalid x f s g = s ≡ false
-Means Passed x f s g = (f ≡ true) × (s ≡ true) × (g ≡ none)
-Means Found x f s g = (f ≡ true) × (s ≡ true) × (g ≡ some x)
-
--- An outcome that question 9 refuses means an entry that is not valid.
-refused_means : (s : ReadOutcome) (x : Candidate) (f b : Bool) (g : Option Candidate) → refuses_of s ≡ true → Means s x f b g → b ≡ false
-refused_means Empty x f b g r m = absurd (let z : ◌≡◌ {A = ℕ} 0 1 = cc in omega arith)
-refused_means Invalid x f b g r m = m
-refused_means Passed x f b g r m = absurd (let z : ◌≡◌ {A = ℕ} 0 1 = cc in omega arith)
-refused_means Found x f b g r m = absurd (let z : ◌≡◌ {A = ℕ} 0 1 = cc in omega arith)
+abbrev pub Means : Result ReadOutcome Question → Bool → Bool → Option Candidate → Type 0
+Means (Ok Empty) f s g = (f ≡ false) × (s ≡ true) × (g ≡ None)
+Means (Ok Passed) f s g = (f ≡ true) × (s ≡ true) × (g ≡ None)
+Means (Ok (Found x)) f s g = (f ≡ true) × (s ≡ true) × (g ≡ Some x)
+Means (Err q) f s g = (s ≡ false) × (number_of q ≡ 9)
 
 -- An outcome that question 9 does not refuse tells whether the slot is filled.
-filled_means : (s : ReadOutcome) (x : Candidate) (f b : Bool) (g : Option Candidate) → refuses_of s ≡ false → Means s x f b g → saw_entry s ≡ f
-filled_means Empty x f b g r m = sym m.0
-filled_means Invalid x f b g r m = absurd (let z : ◌≡◌ {A = ℕ} 0 1 = cc in omega arith)
-filled_means Passed x f b g r m = sym m.0
-filled_means Found x f b g r m = sym m.0
+filled_means : (s : ReadOutcome) (f b : Bool) (g : Option Candidate) → Means (Ok s) f b g → saw_entry s ≡ f
+filled_means Empty f b g m = sym m.0
+filled_means Passed f b g m = sym m.0
+filled_means (Found x) f b g m = sym m.0
 
 module _ (D : Data) (r : Position) where
-  means_of : Means (table_read_at D r).outcome (table_read_at D r).candidate (filled (feed D) r) (valid_at (feed D) r) (gives (feed D) r)
+  means_of : Means (table_read_at D r) (filled (feed D) r) (valid_at (feed D) r) (gives (feed D) r)
   unfolding table_read evaluated_entry filled valid_at gives slot_of feed slot_at entry_at tested_at candidate_of cases is_some
   means_of = by (slotFilled D.words (slot_at D r))
     where
       e : List ℕ
       e = bytes_at D.packed (place D.words (slot_at D r))
 
-      tested : Tested → ReadResult
-      tested t = made_candidate t r.pass (places_of D.frame r.pass r.four) (slot_at D r) (entry_read e).stars (pass_of D.frame r.pass).field D.frame.config.radius
+      tested : Option Float → Result ReadOutcome Question
+      tested t = Ok (made_candidate t r.pass (places_of D.frame r.pass r.four) (slot_at D r) (entry_read e).stars (pass_of D.frame r.pass).field D.frame.config.radius)
 
-      entry : Bool → Tested → ReadResult
-      entry c t = cond c (tested t) (blank Invalid)
+      entry : Bool → Option Float → Result ReadOutcome Question
+      entry c t = cond c (tested t) (Err EntryAndStars)
 
-      two : (c : Bool) (t : Tested) → Means (entry c t).outcome (entry c t).candidate true c (if_hit D r e t)
-      two false t = refl
-      two true PassedOver = (refl, refl, refl)
-      two true (Hit f) = (refl, refl, refl)
+      two : (c : Bool) (t : Option Float) → Means (entry c t) true c (if_hit D r e t)
+      two false t = (refl, refl)
+      two true None = (refl, refl, refl)
+      two true (Some f) = (refl, refl, refl)
 
-      by : (b : Bool) → let o : Option (List ℕ) = cond b (some e) none in let x : ReadResult = cond b (entry (entry_valid D.stars e) (tested_at D r e)) (blank Empty) in Means x.outcome x.candidate (is_some o) (cases o true (entry_valid D.stars)) (cases o none λ e. if_hit D r e (tested_at D r e))
+      by : (b : Bool) → let o : Option (List ℕ) = cond b (Some e) None in Means (cond b (entry (entry_valid D.stars e) (tested_at D r e)) (Ok Empty)) (is_some o) (cases o true (entry_valid D.stars)) (cases o None λ e. if_hit D r e (tested_at D r e))
       by false = (refl, refl, refl)
       by true = two (entry_valid D.stars e) (tested_at D r e)
 
-  pub means : (x : ReadResult) → x ≡ table_read_at D r → Means x.outcome x.candidate (filled (feed D) r) (valid_at (feed D) r) (gives (feed D) r)
-  means x e = subst (λ (y : ReadResult). Means y.outcome y.candidate (filled (feed D) r) (valid_at (feed D) r) (gives (feed D) r)) (sym e) means_of
+  pub means : (x : Result ReadOutcome Question) → x ≡ table_read_at D r → Means x (filled (feed D) r) (valid_at (feed D) r) (gives (feed D) r)
+  means x e = subst (λ y. Means y (filled (feed D) r) (valid_at (feed D) r) (gives (feed D) r)) (sym e) means_of
 
-  module _ (x : ReadResult) (m : Means x.outcome x.candidate (filled (feed D) r) (valid_at (feed D) r) (gives (feed D) r)) where
-    pub refused_invalid : refuses_of x.outcome ≡ true → valid_at (feed D) r ≡ false
-    refused_invalid n = refused_means x.outcome x.candidate (filled (feed D) r) (valid_at (feed D) r) (gives (feed D) r) n m
-
-    pub entry_filled : refuses_of x.outcome ≡ false → saw_entry x.outcome ≡ filled (feed D) r
-    entry_filled n = filled_means x.outcome x.candidate (filled (feed D) r) (valid_at (feed D) r) (gives (feed D) r) n m
+  pub entry_filled : (x : ReadOutcome) → Means (Ok x) (filled (feed D) r) (valid_at (feed D) r) (gives (feed D) r) → saw_entry x ≡ filled (feed D) r
+  entry_filled x m = filled_means x (filled (feed D) r) (valid_at (feed D) r) (gives (feed D) r) m
 
 -- ---- A call between two reads.
 module _ (D : Data) (w : Cursor) (r : Position) (h : Cache) (places : List ℕ) (geometry : List Float) (hashes : List ℕ) (y : Ready D w h places geometry hashes) (e : w.next ≡ goes r) where
@@ -151,7 +139,7 @@ module _ (D : Data) (r : Position) (h : Cache) (places : List ℕ) (geometry : L
   hash_same = o.cached.hash r.key key_below
 
   -- what `read_slot` gives from the cache is `table_read_at` of the read
-  pub read_slot_same : (field : Float) → field ≡ (pass_of D.frame r.pass).field → (x : ReadResult) → x ≡ table_read D.words D.packed ((home_of (get_or hashes r.key 0) D.slots + r.probe * r.probe) % D.slots) (get_or hashes r.key 0) (places_in places r.four) r.pass h.image D.frame.config field D.stars → x ≡ table_read_at D r
+  pub read_slot_same : (field : Float) → field ≡ (pass_of D.frame r.pass).field → (x : Result ReadOutcome Question) → x ≡ table_read D.words D.packed ((home_of (get_or hashes r.key 0) D.slots + r.probe * r.probe) % D.slots) (get_or hashes r.key 0) (places_in places r.four) r.pass h.image D.frame.config field D.stars → x ≡ table_read_at D r
   unfolding slot_at
   read_slot_same field fe x xe = xe ∙ rw (hash_same, places_same, fe, o.cached.image_is)
 
@@ -182,40 +170,36 @@ module _ (D : Data) (st : State) (a : ℕ) (w : Cursor) where
   cap = D.frame.config.cap
 
   module _ (z : State) (ze : z ≡ record { phase = phase_of w.next; patterns = w.patterns; reads = w.reads }) where
-    pub reply_ended : (s : Status) → w.next ≡ ends s → (x : Searched) → x ≡ record { answer = Ended s; candidate = no_candidate; state = z } → x ≡ rest D st a w
-    unfolding said shown
-    reply_ended s e x xe = xe ∙ rw (iterate_ends (feed D) cap st a w s e, ze)
+    pub reply_ended : (s : Status) → w.next ≡ ends s → record { answer = Ok (Ended s); state = z } ≡ rest D st a w
+    unfolding said
+    reply_ended s e = rw (iterate_ends (feed D) cap st a w s e, ze)
 
-    pub reply_used : (r : Position) → w.next ≡ goes r → a ≡ 0 → (x : Searched) → x ≡ record { answer = AllowanceUsed; candidate = no_candidate; state = z } → x ≡ rest D st a w
-    unfolding said shown
-    reply_used r e p x xe = xe ∙ rw (iterate_used (feed D) cap st a w r e p, ze)
+    pub reply_used : (r : Position) → w.next ≡ goes r → a ≡ 0 → record { answer = Ok AllowanceUsed; state = z } ≡ rest D st a w
+    unfolding said
+    reply_used r e p = rw (iterate_used (feed D) cap st a w r e p, ze)
 
   module _ (r : Position) (e : w.next ≡ goes r) (p : 0 < a) where
-    pub reply_refused : valid_at (feed D) r ≡ false → (x : Searched) → x ≡ record { answer = Refused 9; candidate = no_candidate; state = st } → x ≡ rest D st a w
-    unfolding said shown
-    reply_refused s x xe = xe ∙ rw (iterate_refused (feed D) cap st a w r e p s)
+    pub reply_refused : valid_at (feed D) r ≡ false → (q : Question) → number_of q ≡ 9 → record { answer = Err q; state = st } ≡ rest D st a w
+    unfolding said
+    reply_refused s q qe = rw (iterate_refused (feed D) cap st a w r e p s, number_once q EntryAndStars qe)
 
-    pub reply_hit : (f : Candidate) → valid_at (feed D) r ≡ true → gives (feed D) r ≡ some f → (v : Cursor) → v ≡ after_read (feed D) cap w r → (z : State) → z ≡ record { phase = phase_of v.next; patterns = v.patterns; reads = v.reads } → record { answer = SaidCandidate; candidate = f; state = z } ≡ rest D st a w
-    unfolding said shown
+    pub reply_hit : (f : Candidate) → valid_at (feed D) r ≡ true → gives (feed D) r ≡ Some f → (v : Cursor) → v ≡ after_read (feed D) cap w r → (z : State) → z ≡ record { phase = phase_of v.next; patterns = v.patterns; reads = v.reads } → record { answer = Ok (SaidCandidate f); state = z } ≡ rest D st a w
+    unfolding said
     reply_hit f s g v ve z ze = rw (iterate_hit (feed D) cap st a w r e p f s g, ze, ve)
 
     -- An iteration after which the call goes on.
-    iterate_more : valid_at (feed D) r ≡ true → gives (feed D) r ≡ none → (v : Cursor) → v ≡ after_read (feed D) cap w r → (h : Cache) (places : List ℕ) (geometry : List Float) (hashes : List ℕ) → Ready D v h places geometry hashes → Iterated D st a w places geometry hashes (going_on v h st (a - 1))
+    iterate_more : valid_at (feed D) r ≡ true → gives (feed D) r ≡ None → (v : Cursor) → v ≡ after_read (feed D) cap w r → (h : Cache) (places : List ℕ) (geometry : List Float) (hashes : List ℕ) → Ready D v h places geometry hashes → Iterated D st a w places geometry hashes (Goes v h (a - 1))
     iterate_more s n v ve h places geometry hashes y = (omega (arith, p), ap (continuing (feed D) cap st (a - 1)) ve ∙ iterate_passed (feed D) cap st a w r e p s n, y)
 
     -- The iteration of a read that question 9 does not refuse.
     module _ (v : Cursor) (ve : v ≡ after_read (feed D) cap w r) (h : Cache) (places : List ℕ) (geometry : List Float) (hashes : List ℕ) (y : Ready D v h places geometry hashes) where
-      by_outcome : (s : ReadOutcome) (x : Candidate) → refuses_of s ≡ false → Means s x (filled (feed D) r) (valid_at (feed D) r) (gives (feed D) r) → Iterated D st a w places geometry hashes (iteration_after s x v h st (a - 1))
-      by_outcome Empty x n m = iterate_more m.1 m.2 v ve h places geometry hashes y
-      by_outcome Invalid x n m = absurd (let z : ◌≡◌ {A = ℕ} 0 1 = cc in omega arith)
-      by_outcome Passed x n m = iterate_more m.1 m.2 v ve h places geometry hashes y
-      by_outcome Found x n m = reply_hit x m.1 m.2 v ve _ refl
+      by_outcome : (s : ReadOutcome) → Means (Ok s) (filled (feed D) r) (valid_at (feed D) r) (gives (feed D) r) → Iterated D st a w places geometry hashes (iteration_after s v h (a - 1))
+      by_outcome Empty m = iterate_more m.1 m.2 v ve h places geometry hashes y
+      by_outcome Passed m = iterate_more m.1 m.2 v ve h places geometry hashes y
+      by_outcome (Found x) m = reply_hit x m.1 m.2 v ve _ refl
 
-      pub read_iterated : (x : ReadResult) → refuses_of x.outcome ≡ false → Means x.outcome x.candidate (filled (feed D) r) (valid_at (feed D) r) (gives (feed D) r) → (u : Iteration) → u ≡ iteration_after x.outcome x.candidate v h st (a - 1) → Iterated D st a w places geometry hashes u
-      read_iterated x n m u ue = subst (Iterated D st a w places geometry hashes) (sym ue) (by_outcome x.outcome x.candidate n m)
-
-  pub iterate_stop : (x : Searched) → x ≡ rest D st a w → (v : Cursor) (h : Cache) (places : List ℕ) (geometry : List Float) (hashes : List ℕ) (u : Iteration) → u ≡ stopping x v h → Iterated D st a w places geometry hashes u
-  iterate_stop x e v h places geometry hashes u ue = rw ue e
+      pub read_iterated : (x : ReadOutcome) → Means (Ok x) (filled (feed D) r) (valid_at (feed D) r) (gives (feed D) r) → (u : Iteration) → u ≡ iteration_after x v h (a - 1) → Iterated D st a w places geometry hashes u
+      read_iterated x m u ue = subst (Iterated D st a w places geometry hashes) (sym ue) (by_outcome x m)
 
 -- after a read the call is ready for the next
 pub ready_after : (D : Data) (w : Cursor) (r : Position) (h g : Cache) (p p2 : List ℕ) (d d2 : List Float) (l l2 : List ℕ) → Ready D w h p d l → w.next ≡ goes r → (v : Cursor) → v ≡ after_read (feed D) D.frame.config.cap w r → PassCacheValid D.frame g p2 d2 → CombinationCacheValid D.frame g l2 → Ready D v g p2 d2 l2

@@ -4,16 +4,14 @@ use Prim.Native.Nat.{ℕ}
 use native.Mathlib.Omega.{arith}
 use mathlib.Core.Bool.{Bool, true, false, cond}
 use mathlib.Core.List.{List}
-use mathlib.Core.Option.{none, some}
+use Rattle.std.specs.Prelude.{Option, None, Some}
 use lib.Ieee.{Float}
 use Rattle.pattern_catalog.specs.Blocks.{filled, place}
 use Rattle.pattern_entry.specs.Entry.{bytes_at}
 use Rattle.candidates.specs.declared.entry_tests.Candidate.{Candidate}
-use Rattle.candidates.specs.declared.entry_tests.Tested.{Tested}
-use Rattle.candidates.specs.declared.entry_tests.Tested.TheVariants.{PassedOver, Hit}
 use Rattle.candidates.proofs.Hits.{hit_exactly}
 use Rattle.undivided_run.specs.declared.state.Position.{Position}
-use Rattle.undivided_run.specs.declared.state.Cap.{Cap}
+use Rattle.undivided_run.specs.Undivided.{Cap}
 use Rattle.undivided_run.specs.Undivided.{cases, gives, slot_of, undivided}
 use Rattle.undivided_run.specs.Calls.{candidates}
 use Rattle.undivided_run.specs.Tried.{Begins}
@@ -34,30 +32,30 @@ module _ (D : Data) (r : Position) (x : Candidate) where
   e = bytes_at D.packed (place D.words (slot_at D r))
 
   -- The candidate of a read is the one that the tests give for the entry of its slot.
-  gives_is : gives (feed D) r ≡ cond (filled D.words (slot_at D r)) (if_hit D r e (tested_at D r e)) none
+  gives_is : gives (feed D) r ≡ cond (filled D.words (slot_at D r)) (if_hit D r e (tested_at D r e)) None
   unfolding gives feed slot_of slot_at entry_at cases
   gives_is = by (filled D.words (slot_at D r))
     where
-      by : (b : Bool) → cases (cond b (some e) none) none (λ z. if_hit D r z (tested_at D r z)) ≡ cond b (if_hit D r e (tested_at D r e)) none
+      by : (b : Bool) → cases (cond b (Some e) None) None (λ z. if_hit D r z (tested_at D r z)) ≡ cond b (if_hit D r e (tested_at D r e)) None
       by true = refl
       by false = refl
 
-  from_hit : (b : Bool) (t : Tested) → cond b (if_hit D r e t) none ≡ some x → (b ≡ true) × (f : Float) × (t ≡ Hit f) × (x ≡ candidate_of D r e f)
+  from_hit : (b : Bool) (t : Option Float) → cond b (if_hit D r e t) None ≡ Some x → (b ≡ true) × (f : Float) × (t ≡ Some f) × (x ≡ candidate_of D r e f)
   from_hit false t h = absurd (let z : ◌≡◌ {A = ℕ} 0 1 = cc in omega arith)
-  from_hit true PassedOver h = absurd (let z : ◌≡◌ {A = ℕ} 0 1 = cc in omega arith)
-  from_hit true (Hit f) h = (refl, f, refl, cc)
+  from_hit true None h = absurd (let z : ◌≡◌ {A = ℕ} 0 1 = cc in omega arith)
+  from_hit true (Some f) h = (refl, f, refl, cc)
 
-  exactly_to : gives (feed D) r ≡ some x → Gives D r x
+  exactly_to : gives (feed D) r ≡ Some x → Gives D r x
   unfolding tested_at
   exactly_to h =
       let p = from_hit (filled D.words (slot_at D r)) (tested_at D r e) (sym gives_is ∙ h) in
       let q = (hit_exactly _ _ _ _ _ _ _ p.1).0 p.2 in
       record { slot_filled = p.0; entry_agrees = q.0; carries = p.3 ∙ ap (candidate_of D r e) q.1 }
 
-  exactly_from : Gives D r x → gives (feed D) r ≡ some x
+  exactly_from : Gives D r x → gives (feed D) r ≡ Some x
   unfolding tested_at
   exactly_from g =
-      let t : tested_at D r e ≡ Hit _ = (hit_exactly _ _ _ _ _ _ _ _).1 (g.entry_agrees, refl) in
+      let t : tested_at D r e ≡ Some _ = (hit_exactly _ _ _ _ _ _ _ _).1 (g.entry_agrees, refl) in
       gives_is ∙ rw (g.slot_filled, t, g.carries)
 
 pub gives_exactly : GivesExactly

@@ -3,7 +3,6 @@ use mathlib.Core.Path.{◌≡◌, refl, sym, ◌∙◌, ap, subst}
 use Prim.Native.Nat.{ℕ, ◌+◌, ◌-◌, ◌≤◌, ◌<◌}
 use native.Mathlib.Omega.{arith}
 use native.Mathlib.Nat.{eq-or-lt_of_le}
-use mathlib.Core.Bool.{Bool, true, false}
 use mathlib.Core.List.{List}
 use mathlib.Core.Logic.{⊎_elim}
 use lib.Ieee.{Float}
@@ -27,8 +26,9 @@ use Rattle.fast_path.specs.declared.skip_reads.SkipResult.{SkipResult}
 use Rattle.fast_path.proofs.Skippable.{skippable_rest}
 use Rattle.fast_path.proofs.SkippedReads.{skipped_reads_leads}
 use Rattle.pattern_search.specs.Answers.{searched}
-use Rattle.pattern_search.specs.Iteration.{cursor_after_skip, Ready, IteratedBy, Iterated}
+use Rattle.pattern_search.specs.Iteration.{cursor_after_skip, Ready, Iterated}
 use Rattle.pattern_search.specs.declared.Iteration.{Iteration}
+use Rattle.pattern_search.specs.declared.Iteration.TheVariants.{Over, Goes}
 use Rattle.search_cache.proofs.Loaded.{loaded_pass, loaded_four}
 use Rattle.pattern_search.proofs.Iterating.{here_of}
 
@@ -102,8 +102,5 @@ module _ (D : Data) (w : Cursor) (p : Position) (h0 h : Cache) (places places0 :
 
 -- an iteration from there is an iteration from here
 pub iterated_from : (D : Data) (st : State) (a left : ℕ) (w v : Cursor) (places : List ℕ) (geometry : List Float) (hashes : List ℕ) (u : Iteration) → left ≤ a → continuing (feed D) D.frame.config.cap st left v ≡ continuing (feed D) D.frame.config.cap st a w → Iterated D st left v places geometry hashes u → Iterated D st a w places geometry hashes u
-iterated_from D st a left w v places geometry hashes u h e t = by u.more t
-  where
-    by : (b : Bool) → IteratedBy D b st left v places geometry hashes u → IteratedBy D b st a w places geometry hashes u
-    by true t = (omega (arith, t.0), t.1 ∙ e, t.2)
-    by false t = t ∙ ap searched e
+iterated_from D st a left w v places geometry hashes (Over reply) h e t = t ∙ ap searched e
+iterated_from D st a left w v places geometry hashes (Goes x g l) h e t = (omega (arith, t.0), t.1 ∙ e, t.2)

@@ -1,7 +1,7 @@
 -- What else demand 3 says of the run of a search, as statements. proofs/ has a proof of each one under the name given in its comment.
 -- Definitions only.
 use Rattle.std.specs.Prelude.{◌≡◌, ℕ, ◌↔◌, true, List, Float}
-use Rattle.std.proofs.Math.Option.{none, some}
+use Rattle.std.specs.Prelude.{None, Some}
 use Rattle.pattern.specs.Key.{mark_of}
 use Rattle.pattern.specs.Edges.{edges_of}
 use Rattle.pattern_catalog.specs.Blocks.{filled, place}
@@ -11,7 +11,7 @@ use Rattle.candidates.specs.EntryTests.{measured_of}
 use Rattle.candidates.specs.Claims.{Agrees}
 use Rattle.candidates.specs.declared.entry_tests.Candidate.{Candidate}
 use Rattle.undivided_run.specs.declared.state.Position.{Position}
-use Rattle.undivided_run.specs.declared.state.Cap.{Cap}
+use Rattle.undivided_run.specs.Undivided.{Cap}
 use Rattle.undivided_run.specs.Undivided.{gives, undivided}
 use Rattle.undivided_run.specs.Calls.{candidates}
 use Rattle.undivided_run.specs.Tried.{tried_in, capped, all_combinations, Begins, NoHigher}
@@ -25,7 +25,7 @@ use Rattle.search_questions.specs.Questions.{first_seven}
 -- the search": `every_combination_tried`. `all_combinations` lists no combination where there is no slot or no pattern; the laws
 -- `combinations_all` and `combinations_once` of the crate combinations say "every" and "once".
 abbrev pub EveryCombinationTried : Type 0
-EveryCombinationTried = (D : Data) → first_seven D.frame D.slots D.words D.stars ≡ none
+EveryCombinationTried = (D : Data) → first_seven D.frame D.slots D.words D.stars ≡ None
     → tried_in (undivided (feed D) D.frame.config.cap).reads ≡ capped D.frame.config.cap (all_combinations (feed D))
 
 -- "A read gives a candidate exactly when its slot is filled, its 16-bit mark agrees, all five ratios lie strictly inside the tolerance and both
@@ -47,7 +47,7 @@ module _ (D : Data) (r : Position) where
 
 -- A read gives a candidate exactly when `Gives` holds of it.
 abbrev pub GivesExactly : Type 0
-GivesExactly = (D : Data) (r : Position) (x : Candidate) → (gives (feed D) r ≡ some x) ↔ Gives D r x
+GivesExactly = (D : Data) (r : Position) (x : Candidate) → (gives (feed D) r ≡ Some x) ↔ Gives D r x
 
 -- The same settings with another cap.
 abbrev pub with_cap : Cap → SearchConfig → SearchConfig

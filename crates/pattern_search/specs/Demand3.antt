@@ -1,6 +1,6 @@
 -- Demand 3 of the mission, said of the code: a list of calls of `search`, each given the state that the call before it left. Definitions only.
 use Rattle.std.specs.Prelude.{◌≡◌, ℕ, ◌+◌, ◌≤◌, ◌<◌, ◌⊎◌, List, [], ◌∷◌, ◌++◌, map, true, take, drop}
-use Rattle.std.proofs.Math.Option.{none, some}
+use Rattle.std.specs.Prelude.{None, Some}
 use Rattle.candidates.specs.declared.entry_tests.Candidate.{Candidate}
 use Rattle.opening_check.specs.OpenCheck.{opening}
 use Rattle.undivided_run.specs.declared.state.State.{State}
@@ -49,7 +49,7 @@ module _ (D : Data) where
   -- The calls are given, "all not refused the same data, settings and table", which are D; a refused call may be given anything.
   abbrev pub AllSame : State → List Given → Type 0
   AllSame st [] = Unit {0}
-  AllSame st (g ∷ gs) = (refusal_of st (lent_by g) ≡ none → g.lent_data ≡ D) × AllSame (returned st g).state gs
+  AllSame st (g ∷ gs) = (refusal_of st (lent_by g) ≡ None → g.lent_data ≡ D) × AllSame (returned st g).state gs
 
   -- The undivided run of what D holds.
   abbrev pub run : Run
@@ -77,7 +77,7 @@ module _ (D : Data) where
 
 -- The table "passed the opening check".
 abbrev pub Opens : Data → Type 0
-Opens D = opening D.slots D.words D.packed D.stars ≡ none
+Opens D = opening D.slots D.words D.packed D.stars ≡ None
 
 -- Demand 3, for every list of calls from a fresh state over a table that passed the opening check: `listed`.
 abbrev pub EveryList : Type 0
@@ -92,24 +92,24 @@ EachPart = (D : Data) → Opens D → (gs hs : List Given) → AllSame D start (
 -- After such a list, a call given the same data, settings and table is refused under no number, if questions 1 to 7 are answered yes:
 -- `never_refused`.
 abbrev pub NeverRefused : Type 0
-NeverRefused = (D : Data) → Opens D → first_seven D.frame D.slots D.words D.stars ≡ none → (gs : List Given) → AllSame D start gs → (g : Given) → g.lent_data ≡ D → refusal_of (last_state start gs) (lent_by g) ≡ none
+NeverRefused = (D : Data) → Opens D → first_seven D.frame D.slots D.words D.stars ≡ None → (gs : List Given) → AllSame D start gs → (g : Given) → g.lent_data ≡ D → refusal_of (last_state start gs) (lent_by g) ≡ None
 
 -- With the opening check passed and nothing else asked, such a call is not refused, or it is refused by one of questions 1 to 5:
 -- `refused_at_most_five`.
 abbrev pub RefusedAtMostFive : Type 0
 RefusedAtMostFive = (D : Data) → Opens D → (gs : List Given) → AllSame D start gs → (g : Given) → g.lent_data ≡ D
-    → (refusal_of (last_state start gs) (lent_by g) ≡ none) ⊎ ((k : ℕ) × (refusal_of (last_state start gs) (lent_by g) ≡ some k) × (k ≤ 5))
+    → (refusal_of (last_state start gs) (lent_by g) ≡ None) ⊎ ((k : ℕ) × (refusal_of (last_state start gs) (lent_by g) ≡ Some k) × (k ≤ 5))
 
 -- "A call not refused and allowed a read reads a slot unless no read is left."; if none is left, it answers ended: `reads_a_slot`.
 abbrev pub ReadsASlot : Type 0
-ReadsASlot = (st : State) (g : Given) → refusal_of st (lent_by g) ≡ none → (0 < g.allowance)
+ReadsASlot = (st : State) (g : Given) → refusal_of st (lent_by g) ≡ None → (0 < g.allowance)
     → (st.reads < (returned st g).state.reads)
     ⊎ ((s : Status) × (resume (first_read (feed g.lent_data) g.lent_data.frame.config.cap) st.phase ≡ Ends s) × (searched_says (returned st g) ≡ over s))
 
 -- After a list of demand 3, a call not refused and allowed a read makes a read, or the run has no read after those counted and the call answers ended
 -- with the run's status: `reads_on_the_run`.
 abbrev pub ReadsOnTheRun : Type 0
-ReadsOnTheRun = (D : Data) → Opens D → (gs : List Given) → AllSame D start gs → (g : Given) → g.lent_data ≡ D → refusal_of (last_state start gs) (lent_by g) ≡ none → (0 < g.allowance)
+ReadsOnTheRun = (D : Data) → Opens D → (gs : List Given) → AllSame D start gs → (g : Given) → g.lent_data ≡ D → refusal_of (last_state start gs) (lent_by g) ≡ None → (0 < g.allowance)
     → ((last_state start gs).reads < (returned (last_state start gs) g).state.reads)
     ⊎ ((drop (last_state start gs).reads (run D).reads ≡ []) × (searched_says (returned (last_state start gs) g) ≡ over (run D).status))
 
@@ -117,8 +117,8 @@ ReadsOnTheRun = (D : Data) → Opens D → (gs : List Given) → AllSame D start
 -- `candidate_read`.
 abbrev pub CandidateRead : Type 0
 CandidateRead = (st : State) (g : Given) (x : Candidate) → searched_says (returned st g) ≡ candidate x
-    → (first_seven g.lent_data.frame g.lent_data.slots g.lent_data.words g.lent_data.stars ≡ none)
-    × (r : Position) × ReadExists (feed g.lent_data) r × (valid_at (feed g.lent_data) r ≡ true) × (gives (feed g.lent_data) r ≡ some x)
+    → (first_seven g.lent_data.frame g.lent_data.slots g.lent_data.words g.lent_data.stars ≡ None)
+    × (r : Position) × ReadExists (feed g.lent_data) r × (valid_at (feed g.lent_data) r ≡ true) × (gives (feed g.lent_data) r ≡ Some x)
 
 -- A call that answers "allowance used" made exactly its allowance of reads: `uses_its_allowance`.
 abbrev pub UsesItsAllowance : Type 0

@@ -1,8 +1,6 @@
 -- What one iteration of a search call returns, and what holds of the call between two iterations. Definitions only.
-use Rattle.std.specs.Prelude.{◌≡◌, ℕ, ◌+◌, ◌-◌, ◌<◌, Bool, true, false, cond, eqb, List, Float}
+use Rattle.std.specs.Prelude.{◌≡◌, ℕ, ◌+◌, ◌-◌, ◌<◌, Bool, true, false, cond, eqb, List, Float, Ok}
 use Rattle.pattern_catalog.specs.Blocks.{table_fits}
-use Rattle.candidates.specs.NoCandidate.{no_candidate}
-use Rattle.candidates.specs.declared.entry_tests.Candidate.{Candidate}
 use Rattle.undivided_run.specs.declared.state.Position.{Position}
 use Rattle.undivided_run.specs.declared.state.State.{State}
 use Rattle.undivided_run.specs.declared.state.Cursor.{Cursor}
@@ -15,42 +13,26 @@ use Rattle.search_cache.specs.Cache.{PassCacheValid, CombinationCacheValid}
 use Rattle.search_feed.specs.Claims.{FrameFits}
 use Rattle.search_cache.specs.declared.pass.Cache.{Cache}
 use Rattle.search_feed.specs.declared.ReadOutcome.{ReadOutcome}
-use Rattle.search_feed.specs.declared.ReadOutcome.TheVariants.{Empty, Invalid, Passed, Found}
+use Rattle.search_feed.specs.declared.ReadOutcome.TheVariants.{Empty, Passed, Found}
 use Rattle.undivided_run.specs.Moves.{at_key}
 use Rattle.fast_path.specs.declared.skip_reads.SkipResult.{SkipResult}
 use Rattle.pattern_search.specs.Answers.{searched}
 use Rattle.pattern_search.specs.declared.Iteration.{Iteration}
 use Rattle.pattern_search.specs.declared.Searched.{Searched}
-use Rattle.pattern_search.specs.declared.Answer.TheVariants.{Candidate as SaidCandidate, AllowanceUsed}
-
--- The iteration that ends the call with the reply x.
-abbrev pub stopping : Searched → Cursor → Cache → Iteration
-stopping x w h = record { more = false; reply = x; cursor = w; cached = h; left = 0 }
-
--- The iteration after which the call goes on, with `left` reads still allowed; its reply is not used.
-abbrev pub going_on : Cursor → Cache → State → ℕ → Iteration
-going_on w h st left = record { more = true; reply = record { answer = AllowanceUsed; candidate = no_candidate; state = st }; cursor = w; cached = h; left = left }
-
--- Whether question 9 refuses a call that makes a read with this outcome.
-abbrev pub refuses_of : ReadOutcome → Bool
-refuses_of Empty = false
-refuses_of Invalid = true
-refuses_of Passed = false
-refuses_of Found = false
+use Rattle.pattern_search.specs.declared.Iteration.TheVariants.{Over, Goes}
+use Rattle.pattern_search.specs.declared.Answer.TheVariants.{Candidate as SaidCandidate}
 
 -- Whether the slot of a read with this outcome is filled.
 abbrev pub saw_entry : ReadOutcome → Bool
 saw_entry Empty = false
-saw_entry Invalid = true
 saw_entry Passed = true
-saw_entry Found = true
+saw_entry (Found x) = true
 
--- The iteration of a read with this outcome and the candidate x, where w is the cursor after the read.
-abbrev pub iteration_after : ReadOutcome → Candidate → Cursor → Cache → State → ℕ → Iteration
-iteration_after Found x w h st left = stopping (record { answer = SaidCandidate; candidate = x; state = record { phase = phase_of w.next; patterns = w.patterns; reads = w.reads } }) w h
-iteration_after Empty x w h st left = going_on w h st left
-iteration_after Invalid x w h st left = going_on w h st left
-iteration_after Passed x w h st left = going_on w h st left
+-- The iteration of a read with this outcome, where w is the cursor after the read.
+abbrev pub iteration_after : ReadOutcome → Cursor → Cache → ℕ → Iteration
+iteration_after (Found x) w h left = Over (record { answer = Ok (SaidCandidate x); state = record { phase = phase_of w.next; patterns = w.patterns; reads = w.reads } })
+iteration_after Empty w h left = Goes w h left
+iteration_after Passed w h left = Goes w h left
 
 -- The cursor after the reads that `fast_path` skipped, where w is the cursor before them, p its read, and a the reads allowed before them.
 abbrev pub cursor_after_skip : Cursor → Position → SkipResult → ℕ → Cursor
@@ -72,13 +54,9 @@ module _ (D : Data) where
   abbrev pub rest : State → ℕ → Cursor → Searched
   rest st a w = searched (continuing (feed D) D.frame.config.cap st a w)
 
-  -- What an iteration u ensures. If it ends the call, its reply is the call's reply; if not, fewer reads are allowed, the rest of the call is the
+  -- What an iteration ensures. If it ends the call, its reply is the call's reply; if not, fewer reads are allowed, the rest of the call is the
   -- same, and the call is ready to go on.
-  abbrev pub IteratedBy : Bool → State → ℕ → Cursor → List ℕ → List Float → List ℕ → Iteration → Type 0
-  IteratedBy false st a w places geometry hashes u = u.reply ≡ rest st a w
-  IteratedBy true st a w places geometry hashes u =
-      (u.left < a) × (continuing (feed D) D.frame.config.cap st u.left u.cursor ≡ continuing (feed D) D.frame.config.cap st a w) × Ready u.cursor u.cached places geometry hashes
-
-  -- What an iteration u ensures, by whether it says that the call goes on.
   abbrev pub Iterated : State → ℕ → Cursor → List ℕ → List Float → List ℕ → Iteration → Type 0
-  Iterated st a w places geometry hashes u = IteratedBy u.more st a w places geometry hashes u
+  Iterated st a w places geometry hashes (Over reply) = reply ≡ rest st a w
+  Iterated st a w places geometry hashes (Goes v h left) =
+      (left < a) × (continuing (feed D) D.frame.config.cap st left v ≡ continuing (feed D) D.frame.config.cap st a w) × Ready v h places geometry hashes

@@ -1,6 +1,6 @@
 // A call: the questions, the first read, and a loop of iterations.
 ghost use Rattle.std.specs.Prelude.{◌≡◌, ◌≤◌, length};
-ghost use Rattle.std.proofs.Math.Option.{none};
+ghost use Rattle.std.specs.Prelude.{None};
 ghost use Rattle.undivided_run.specs.Step.{zero_call, search_call};
 ghost use Rattle.undivided_run.specs.CallInvariant.{continuing};
 ghost use Rattle.search_feed.specs.Data.{frame_of, data_of};
@@ -10,12 +10,12 @@ ghost use Rattle.pattern_search.specs.Answers.{searched, reply_says};
 ghost use Rattle.pattern_search.specs.Iteration.{Ready};
 ghost use Rattle.pattern_search.specs.Demand3.{lent_by, returned};
 
-use crate::reading::{iterate, plain};
-use crate::{Answer, Searched};
+use crate::reading::iterate;
+use crate::{Answer, Iteration, Searched};
 use fast_path::valid_stars::ValidStars;
+use question::Question;
 use search_cache::pass::Cache;
 use search_feed::SearchConfig;
-use search_questions::questions_1_to_7::Questions1To7;
 use undivided_run::state::{Cursor, Next, Phase, State};
 
 // Iteration after iteration, until a reply.
@@ -49,19 +49,16 @@ fn run(
     loop {
         let k = fast_path::valid_stars::validate_stars(stars, known, allowance - a);
         known = k;
-        let u = iterate(
+        match iterate(
             centroids, order, config, passes, slots, words, packed, stars, k.valid, st, a, w, h,
             places, geometry, hashes,
-        );
-        if u.more {
-            let v = u.cursor;
-            let g = u.cached;
-            w = v;
-            h = g;
-            a = u.left;
-        } else {
-            let reply = u.reply;
-            return reply;
+        ) {
+            Iteration::Over(reply) => return reply,
+            Iteration::Goes(on, current, left) => {
+                w = on;
+                h = current;
+                a = left;
+            }
         }
     }
 }
@@ -77,9 +74,15 @@ fn zero_call(st: State, next: Next) -> Searched
                 patterns: st.patterns,
                 reads: st.reads,
             };
-            plain(Answer::Ended(s), state)
+            Searched {
+                answer: Ok(Answer::Ended(s)),
+                state,
+            }
         }
-        Next::Goes(_) => plain(Answer::AllowanceUsed, st),
+        Next::Goes(_) => Searched {
+            answer: Ok(Answer::AllowanceUsed),
+            state: st,
+        },
     }
 }
 
@@ -117,7 +120,7 @@ fn go(
     st: State,
     allowance: u64,
 ) -> Searched
-    requires { first_seven (frame_of centroids.now order.now config passes.now) slots words.now stars.now ≡ none }
+    requires { first_seven (frame_of centroids.now order.now config passes.now) slots words.now stars.now ≡ None }
     ensures { result ≡ returned st (record { lent_data = data_of (frame_of centroids.now order.now config passes.now) slots words.now packed.now stars.now; allowance = allowance }) }
 {
     let mut places = no_places();
@@ -136,7 +139,10 @@ fn go(
         &mut hashes,
     );
     if !eight.fits {
-        return plain(Answer::Refused(8), st);
+        return Searched {
+            answer: Err(Question::SavedState),
+            state: st,
+        };
     }
     let current = eight.cached;
     let first = search_step::call_start::start_call(
@@ -198,8 +204,11 @@ pub fn search(
     match search_questions::questions_1_to_7::first_seven(
         centroids, order, config, passes, slots, words, stars,
     ) {
-        Questions1To7::No(k) => plain(Answer::Refused(k), state),
-        Questions1To7::Clear => go(
+        Err(question) => Searched {
+            answer: Err(question),
+            state,
+        },
+        Ok(()) => go(
             centroids, order, config, passes, slots, words, packed, stars, state, allowance,
         ),
     }

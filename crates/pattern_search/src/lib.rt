@@ -6,32 +6,30 @@ mod reading;
 
 pub use crate::call::search;
 use candidates::entry_tests::Candidate;
+use question::Question;
 use search_cache::pass::Cache;
 use undivided_run::state::{Cursor, State, Status};
 
-// What a call answers. The candidate stands beside it.
+// What a call answers that no question refuses.
 #[derive(Clone, Copy)]
 pub enum Answer {
-    Candidate,
+    Candidate(Candidate),
     AllowanceUsed,
     Ended(Status),
-    Refused(u32),
 }
 
-// A call's answer, its candidate (all zero where none is given) and the state it leaves.
+// A call's answer, or the question that refuses the call, and the state that the call leaves.
 #[derive(Clone, Copy)]
 pub struct Searched {
-    pub answer: Answer,
-    pub candidate: Candidate,
+    pub answer: Result<Answer, Question>,
     pub state: State,
 }
 
-// What an iteration gives: the call's reply, or the cursor, the cache and the allowance to go on with.
+// What an iteration gives.
 #[derive(Clone, Copy)]
-pub struct Iteration {
-    pub more: bool,
-    pub reply: Searched,
-    pub cursor: Cursor,
-    pub cached: Cache,
-    pub left: u64,
+pub enum Iteration {
+    // The call is over, with this reply.
+    Over(Searched),
+    // The call goes on with this cursor, this cache and this allowance.
+    Goes(Cursor, Cache, u64),
 }

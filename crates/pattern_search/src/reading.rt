@@ -1,100 +1,34 @@
 // One iteration of a call: the reads that give nothing gone over, then a read and what it makes of the call.
 ghost use Rattle.std.specs.Prelude.{◌≡◌, ◌+◌, ◌-◌, ◌≤◌, ◌<◌};
 ghost use Rattle.search_feed.specs.Data.{frame_of, data_of};
-ghost use Rattle.candidates.specs.NoCandidate.{no_candidate};
 ghost use Rattle.search_cache.specs.Cache.{LoadedPass, LoadedCombination};
 ghost use Rattle.fast_path.specs.ValidStars.{ValidBelow};
-ghost use Rattle.pattern_search.specs.Iteration.{stopping, going_on, refuses_of, saw_entry, iteration_after, cursor_after_skip, Ready, Iterated};
+ghost use Rattle.pattern_search.specs.Iteration.{saw_entry, iteration_after, cursor_after_skip, Ready, Iterated};
 
 use crate::{Answer, Iteration, Searched};
 use fast_path::skip_reads::SkipResult;
 use search_cache::pass::Cache;
-use search_feed::{ReadOutcome, ReadResult, SearchConfig};
+use search_feed::{ReadOutcome, SearchConfig};
 use undivided_run::state::{Cursor, Next, Position, State};
 
-// A reply without a candidate.
-pub fn plain(answer: Answer, state: State) -> Searched
-    ensures { result ≡ record { answer = answer; candidate = no_candidate; state = state } }
+// Returns whether the slot that a read saw is filled.
+fn saw_entry(read: ReadOutcome) -> bool
+    ensures { result ≡ saw_entry read }
 {
-    let candidate = candidates::entry_tests::no_candidate();
-    Searched {
-        answer,
-        candidate,
-        state,
-    }
+    !matches!(read, ReadOutcome::Empty)
 }
 
-// An iteration that ends the call.
-fn stop(reply: Searched, cursor: Cursor, cached: Cache) -> Iteration
-    ensures { result ≡ stopping reply cursor cached }
+// What a read makes of the call, with the cursor after it: the candidate that it gave, or on to the next read.
+fn iteration_after(read: ReadOutcome, on: Cursor, cached: Cache, left: u64) -> Iteration
+    ensures { result ≡ iteration_after read on cached left }
 {
-    Iteration {
-        more: false,
-        reply,
-        cursor,
-        cached,
-        left: 0,
-    }
-}
-
-// An iteration that goes on.
-fn continue_call(cursor: Cursor, cached: Cache, st: State, left: u64) -> Iteration
-    ensures { result ≡ going_on cursor cached st left }
-{
-    let reply = plain(Answer::AllowanceUsed, st);
-    Iteration {
-        more: true,
-        reply,
-        cursor,
-        cached,
-        left,
-    }
-}
-
-// Whether question 9 is answered no by what a read saw.
-fn refuses(outcome: ReadOutcome) -> bool
-    ensures { result ≡ refuses_of outcome }
-{
-    match outcome {
-        ReadOutcome::Invalid => true,
-        ReadOutcome::Empty => false,
-        ReadOutcome::Passed => false,
-        ReadOutcome::Found => false,
-    }
-}
-
-// Whether the slot that a read saw is filled.
-fn saw_entry(outcome: ReadOutcome) -> bool
-    ensures { result ≡ saw_entry outcome }
-{
-    match outcome {
-        ReadOutcome::Empty => false,
-        ReadOutcome::Invalid => true,
-        ReadOutcome::Passed => true,
-        ReadOutcome::Found => true,
-    }
-}
-
-// What a valid read makes of the call, with the cursor after it: the candidate that it gave, or on to the next read.
-fn iteration_after(read: ReadResult, on: Cursor, cached: Cache, st: State, left: u64) -> Iteration
-    ensures { result ≡ iteration_after read.outcome read.candidate on cached st left }
-{
-    let outcome = read.outcome;
-    match outcome {
-        ReadOutcome::Found => {
-            let candidate = read.candidate;
-            let state = on.state();
-            let reply = Searched {
-                answer: Answer::Candidate,
-                candidate,
-                state,
-            };
-            stop(reply, on, cached)
-        }
-        ReadOutcome::Passed => continue_call(on, cached, st, left),
-        ReadOutcome::Empty => continue_call(on, cached, st, left),
-        ReadOutcome::Invalid => continue_call(on, cached, st, left),
-    }
+    let ReadOutcome::Found(candidate) = read else {
+        return Iteration::Goes(on, cached, left);
+    };
+    Iteration::Over(Searched {
+        answer: Ok(Answer::Candidate(candidate)),
+        state: on.state(),
+    })
 }
 
 // The cursor after the reads of a combination that fast_path skipped.
@@ -138,14 +72,17 @@ fn single_read(
 {
     let field = settings::passes::pass_at(passes, p.pass).field;
     let image = current.image;
-    let read = search_feed::read_slot(
+    let read = match search_feed::read_slot(
         p, image, &*places, hashes, config, field, slots, words, packed, stars,
-    );
-    let outcome = read.outcome;
-    if refuses(outcome) {
-        let reply = plain(Answer::Refused(9), st);
-        return stop(reply, cursor, current);
-    }
+    ) {
+        Ok(read) => read,
+        Err(question) => {
+            return Iteration::Over(Searched {
+                answer: Err(question),
+                state: st,
+            });
+        }
+    };
     let s = search_step::step::step(
         centroids,
         order,
@@ -154,14 +91,14 @@ fn single_read(
         slots,
         current,
         p,
-        saw_entry(outcome),
+        saw_entry(read),
         cursor,
         places,
         geometry,
     );
     let on = s.cursor;
     let after = s.cached;
-    iteration_after(read, on, after, st, allowance - 1)
+    iteration_after(read, on, after, allowance - 1)
 }
 
 // Over the reads of the combination at hand that give nothing, then the read that they lead to, if the allowance has one left.
@@ -204,8 +141,10 @@ fn skip_then_read(
     );
     let on = after_skip(cursor, p, s, allowance);
     if s.left == 0 {
-        let reply = plain(Answer::AllowanceUsed, on.state());
-        return stop(reply, on, current);
+        return Iteration::Over(Searched {
+            answer: Ok(Answer::AllowanceUsed),
+            state: on.state(),
+        });
     }
     let to = p.at_key(s.key, s.probe);
     single_read(
@@ -238,14 +177,16 @@ pub fn iterate(
 {
     let next = cursor.next;
     match next {
-        Next::Ends(s) => {
-            let reply = plain(Answer::Ended(s), cursor.state());
-            stop(reply, cursor, cached)
-        }
+        Next::Ends(s) => Iteration::Over(Searched {
+            answer: Ok(Answer::Ended(s)),
+            state: cursor.state(),
+        }),
         Next::Goes(p) => {
             if allowance == 0 {
-                let reply = plain(Answer::AllowanceUsed, cursor.state());
-                return stop(reply, cursor, cached);
+                return Iteration::Over(Searched {
+                    answer: Ok(Answer::AllowanceUsed),
+                    state: cursor.state(),
+                });
             }
             skip_then_read(
                 centroids, order, config, passes, slots, words, packed, stars, valid, st,

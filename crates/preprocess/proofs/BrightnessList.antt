@@ -1,6 +1,6 @@
 -- Question 3: the loops over the brightness list, with and without marks for the indices met, and what holds of a list that passes. Assumes nothing.
 use mathlib.Core.Path.{◌≡◌, refl, sym, ◌∙◌, ap}
-use Prim.Native.Nat.{ℕ, zero, suc, ◌+◌, ◌/◌, ◌%◌, ◌≤◌, ◌<◌}
+use Prim.Native.Nat.{ℕ, zero, suc, ◌+◌, ◌-◌, ◌/◌, ◌%◌, ◌≤◌, ◌<◌}
 use native.Mathlib.Omega.{arith}
 use native.Mathlib.Numerals.{add-one}
 use native.Mathlib.Nat.{div-add-mod'}
@@ -10,31 +10,35 @@ use mathlib.Core.List.{List, [], ◌∷◌}
 use mathlib.Core.Logic.{◌⊎◌, inl, inr}
 use borrow.Author.Tests.{eq-eqb, ne_eqb, eqb-true, eqb-false, lt-ltb, ltb-true, leb-true, not-true}
 use lib.Dec.{ltb, leb, eqb}
-use lib.ListN.{length, get_or, drop, set, replicate, length-set, length-replicate, get_or-replicate, drop_of_length-le}
-use lib.Seq.{drop-cons, get_or-set_same, get_or-set_other}
+use lib.ListN.{length, get_or, take, drop, set, length-drop, replicate, length-set, length-replicate, get_or-replicate, drop_of_length-le}
+use lib.Seq.{drop-cons, take-length, get_or-set_same, get_or-set_other}
+use Rattle.std.specs.List.{list_all, list_any}
 use Rattle.preprocess.specs.Questions.{centroids_fit}
 use Rattle.preprocess.specs.BrightnessList.{order_fits, all_below, among, none_twice}
 use Rattle.preprocess.specs.BrightnessList.{centroid_of}
 use Rattle.preprocess.proofs.Coordinates.{both_l, both_r}
 use Rattle.preprocess.specs.BrightnessListClaims.{PlacesHaveCentroids, PlacesAtMost256}
 
+-- ---- The definitions, as std's words for what `all` and `contains` return.
+pub all_below_is : (n : ℕ) (xs : List ℕ) → list_all (λ x. ltb x n) xs ≡ all_below n xs
+unfolding all_below
+all_below_is n [] = refl
+all_below_is n (x ∷ xs) = rw (all_below_is n xs)
+
+among_is : (x : ℕ) (xs : List ℕ) → list_any (λ y. eqb y x) xs ≡ among x xs
+unfolding among
+among_is x [] = refl
+among_is x (y ∷ ys) = rw (among_is x ys)
+
+-- The same of the part of a list from an index on, as a slice of it reads.
+pub among_rest : (x k : ℕ) (xs : List ℕ) → list_any (λ y. eqb y x) (take (length xs - k) (drop k xs)) ≡ among x (drop k xs)
+among_rest x k xs = rw (← length-drop k xs, take-length) (among_is x (drop k xs))
+
 -- ---- The definitions, applied to the part of a list from an index on.
 module _ (s : List ℕ) (i : ℕ) where
-  pub below_step : (n : ℕ) → i < length s → all_below n (drop i s) ≡ (ltb (get_or s i 0) n && all_below n (drop (i + 1) s))
+  below_step : (n : ℕ) → i < length s → all_below n (drop i s) ≡ (ltb (get_or s i 0) n && all_below n (drop (i + 1) s))
   unfolding all_below
   below_step n h = rw (add-one, drop-cons s i 0 h)
-
-  pub below_end : (n : ℕ) → length s ≤ i → all_below n (drop i s) ≡ true
-  unfolding all_below
-  below_end n h = rw (drop_of_length-le s h)
-
-  pub among_step : (x : ℕ) → i < length s → among x (drop i s) ≡ (eqb (get_or s i 0) x || among x (drop (i + 1) s))
-  unfolding among
-  among_step x h = rw (add-one, drop-cons s i 0 h)
-
-  pub among_end : (x : ℕ) → length s ≤ i → among x (drop i s) ≡ false
-  unfolding among
-  among_end x h = rw (drop_of_length-le s h)
 
   pub twice_step : i < length s → none_twice (drop i s) ≡ (not (among (get_or s i 0) (drop (i + 1) s)) && none_twice (drop (i + 1) s))
   unfolding none_twice

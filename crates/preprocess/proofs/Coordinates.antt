@@ -1,18 +1,16 @@
--- Question 2: a coordinate is finite and of magnitude at most 32,768 exactly where it lies from -32,768 to 32,768; and the loop over a slice.
+-- Question 2: a coordinate is finite and of magnitude at most 32,768 exactly where it lies from -32,768 to 32,768; and a slice of them.
 -- Assumes nothing.
 use mathlib.Core.Path.{◌≡◌, refl, sym, ◌∙◌}
-use Prim.Native.Nat.{ℕ, zero, suc, ◌+◌, ◌≤◌, ◌<◌}
+use Prim.Native.Nat.{ℕ, zero, suc, ◌<◌}
 use native.Mathlib.Omega.{arith}
-use native.Mathlib.Numerals.{add-one}
-use mathlib.Core.Bool.{Bool, true, false, not, ◌&&◌}
+use mathlib.Core.Bool.{Bool, true, false, ◌&&◌}
 use mathlib.Core.List.{List, [], ◌∷◌}
-use borrow.Author.Tests.{not-true, not-false}
 use lib.IntN.{pos}
 use lib.Dec.{T}
-use lib.ListN.{length, get_or, drop, drop_of_length-le}
-use lib.Seq.{drop-cons}
+use lib.ListN.{length, get_or}
 use lib.Ieee.{Float, nan, inf, fin, le, neg, of_bits}
 use lib.Ieee.Fits.{and_l, and_r, and_i}
+use Rattle.std.specs.List.{list_all}
 use Rattle.numeric.specs.Magnitude.{magnitude_of}
 pub use Rattle.numeric.proofs.Tests.{both_l, both_r}
 use Rattle.numeric.proofs.Order.{le→below, below→le, holds}
@@ -64,22 +62,8 @@ coordinates_at [] k h l = absurd (omega arith)
 coordinates_at (x ∷ c) zero h l = coordinate_in x (both_l (coordinate_fits x) (coordinates_fit c) h)
 coordinates_at (x ∷ c) (suc k) h l = coordinates_at c k (both_r (coordinate_fits x) (coordinates_fit c) h) (omega arith)
 
--- ---- The loop over the slice.
-module _ (s : List Float) (i : ℕ) where
-  step : i < length s → coordinates_fit (drop i s) ≡ (coordinate_fits (get_or s i nan) && coordinates_fit (drop (i + 1) s))
-  unfolding coordinates_fit
-  step h = rw (add-one, drop-cons s i nan h)
-
-  pub coordinates_end : length s ≤ i → coordinates_fit (drop i s) ≡ true
-  unfolding coordinates_fit
-  coordinates_end h = rw (drop_of_length-le s h)
-
-  module _ (h : i < length s) where
-    pub too_low : not (le (neg farthest) (get_or s i nan)) ≡ true → coordinates_fit (drop i s) ≡ false
-    too_low t = rw (step h, coordinate_is (get_or s i nan), not-true (le (neg farthest) (get_or s i nan)) t)
-
-    pub too_high : not (le (neg farthest) (get_or s i nan)) ≡ false → not (le (get_or s i nan) farthest) ≡ true → coordinates_fit (drop i s) ≡ false
-    too_high t u = rw (step h, coordinate_is (get_or s i nan), not-false (le (neg farthest) (get_or s i nan)) t, not-true (le (get_or s i nan) farthest) u)
-
-    pub goes_on : not (le (neg farthest) (get_or s i nan)) ≡ false → not (le (get_or s i nan) farthest) ≡ false → coordinates_fit (drop i s) ≡ coordinates_fit (drop (i + 1) s)
-    goes_on t u = rw (step h, coordinate_is (get_or s i nan), not-false (le (neg farthest) (get_or s i nan)) t, not-false (le (get_or s i nan) farthest) u)
+-- ---- The definition, as std's word for what `all` returns.
+pub coordinates_are : (xs : List Float) → list_all (λ x. le (neg farthest) x && le x farthest) xs ≡ coordinates_fit xs
+unfolding coordinates_fit
+coordinates_are [] = refl
+coordinates_are (x ∷ xs) = rw (coordinates_are xs, coordinate_is x)

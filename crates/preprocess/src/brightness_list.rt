@@ -12,14 +12,7 @@ pub struct Place(pub u32);
 fn all_below(order: &[u32], n: usize) -> bool
     ensures { result ≡ all_below n order.now }
 {
-    let mut i = 0;
-    while i < order.len() {
-        if order[i] as usize >= n {
-            return false;
-        }
-        i += 1;
-    }
-    true
+    order.iter().all(|x| (*x as usize) < n)
 }
 
 // Returns whether no index stands twice. The indices are below 256, and the loop sets one mark for each index that it has met.
@@ -28,42 +21,24 @@ fn none_twice_marked(order: &[u32]) -> bool
     ensures { result ≡ none_twice order.now }
 {
     let mut seen = [false; 256];
-    let mut i = 0;
-    while i < order.len() {
-        let at = order[i] as usize;
+    for x in order {
+        let at = *x as usize;
         if seen[at] {
             return false;
         }
         seen[at] = true;
-        i += 1;
     }
     true
-}
-
-// Returns whether x is among the indices from place `from` on.
-fn is_among(order: &[u32], from: usize, x: u32) -> bool
-    ensures { result ≡ among x (drop from order.now) }
-{
-    let mut i = from;
-    while i < order.len() {
-        if order[i] == x {
-            return true;
-        }
-        i += 1;
-    }
-    false
 }
 
 // Returns whether no index stands twice, as `none_twice_marked` does, for indices of any size. It serves slices that question 1 refuses.
 fn none_twice(order: &[u32]) -> bool
     ensures { result ≡ none_twice order.now }
 {
-    let mut i = 0;
-    while i < order.len() {
-        if is_among(order, i + 1, order[i]) {
+    for (i, x) in order.iter().enumerate() {
+        if order[i + 1..].contains(x) {
             return false;
         }
-        i += 1;
     }
     true
 }

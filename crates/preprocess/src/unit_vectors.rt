@@ -11,31 +11,14 @@ pub struct CentroidIndex(pub u32);
 pub fn centroids_fit(centroids: &[f32]) -> bool
     ensures { result ≡ centroids_fit centroids.now }
 {
-    if centroids.len() % 2 != 0 {
-        return false;
-    }
-    if centroids.len() > 512 {
-        return false;
-    }
-    true
+    centroids.len() % 2 == 0 && centroids.len() <= 512
 }
 
 // Question 2: is each coordinate finite and of magnitude at most 32,768? A NaN or an infinity fails at least one of the two comparisons.
 pub fn coordinates_fit(centroids: &[f32]) -> bool
     ensures { result ≡ coordinates_fit centroids.now }
 {
-    let mut i = 0;
-    while i < centroids.len() {
-        let x = centroids[i];
-        if !(x >= -32768.0) {
-            return false;
-        }
-        if !(x <= 32768.0) {
-            return false;
-        }
-        i += 1;
-    }
-    true
+    centroids.iter().all(|x| *x >= -32768.0 && *x <= 32768.0)
 }
 
 // Returns (x·scale, y·scale, 1), divided by its norm. The source multiplies x by a parity sign; here that sign is 1, and 1·x is x.

@@ -1,162 +1,136 @@
 // Answers the records that ask for something: call, run, open, slot, sweep and complete.
-use crate::lines::{call_line, complete_line, open_line, slot_line, stream_line, sweep_line};
+use crate::lines::{call_line, complete_line, open_line, slot_line, sweep_line};
 use candidates::entry_tests::Candidate;
+use numeric::bits::from_bits;
 use pattern_entry::stars::StarIndex;
+use pattern_search::Answer;
 use preprocess::brightness_list::Place;
-use stream::records::{Inputs, option};
+use std::ops::ControlFlow;
+use stream::broken::Broken;
+use stream::lent::Lent;
+use stream::records::{Record, Request, option};
 use stream::words::Words;
+use undivided_run::state::State;
 
-// What a call leaves: whether a run goes on after it, and the inputs after it.
-#[derive(Clone, Copy)]
-struct Called {
-    more: bool,
-    inputs: Inputs,
+// Answers what a record asks for, and returns the state that it leaves.
+pub fn answer(rt: &impl Print, record: &Record, lent: &Lent) -> Result<State, Broken> {
+    let state = lent.inputs.state;
+    match record.request {
+        Request::Call(allowance) => return Ok(one_call(rt, lent, state, allowance)),
+        Request::Run(allowance) => return Ok(calls(rt, lent, state, allowance)),
+        Request::Open => open_record(rt, lent),
+        Request::Slot(slot) => slot_record(rt, lent, slot),
+        Request::Sweep => sweep_record(rt, record.words)?,
+        Request::Complete => complete_record(rt, lent, record.words),
+        Request::Nothing => {}
+    }
+    Ok(state)
 }
 
-// Makes one call of the search and writes its line.
-fn call(
-    inputs: Inputs,
-    table: &[u64],
-    packed: &[u8],
-    stars: &[f32],
-    coords: &[f32],
-    places: &[u32],
-    triples: &[f32],
-    allowance: u64,
-) -> Called {
-    let config = inputs.config;
-    let state = inputs.state;
+// Makes one call of the search from a state and writes its line. Returns the state after it, to go on from or to stop at in a run.
+fn call(rt: &impl Print, lent: &Lent, state: State, allowance: u64) -> ControlFlow<State, State> {
     let searched = pattern_search::search(
-        coords,
-        places,
-        config,
-        triples,
-        inputs.table.slots,
-        table,
-        packed,
-        stars,
+        lent.coords(),
+        lent.places(),
+        lent.inputs.config,
+        lent.triples(),
+        lent.inputs.table.slots,
+        lent.words(),
+        lent.packed(),
+        lent.stars(),
         state,
         allowance,
     );
-    let left = searched.state;
-    let more = call_line(searched);
-    let mut after = inputs;
-    after.state = left;
-    Called {
-        more,
-        inputs: after,
+    call_line(rt, searched);
+    match searched.answer {
+        Ok(Answer::Candidate(_) | Answer::AllowanceUsed) => ControlFlow::Continue(searched.state),
+        Ok(Answer::Ended(_)) | Err(_) => ControlFlow::Break(searched.state),
     }
 }
 
-// Answers a call record and returns the inputs after it.
-pub fn one_call(
-    inputs: Inputs,
-    table: &[u64],
-    packed: &[u8],
-    stars: &[f32],
-    coords: &[f32],
-    places: &[u32],
-    triples: &[f32],
-    allowance: u64,
-) -> Inputs {
-    let called = call(
-        inputs, table, packed, stars, coords, places, triples, allowance,
-    );
-    called.inputs
+// Answers a call record and returns the state after it.
+fn one_call(rt: &impl Print, lent: &Lent, state: State, allowance: u64) -> State {
+    match call(rt, lent, state, allowance) {
+        ControlFlow::Continue(after) | ControlFlow::Break(after) => after,
+    }
 }
 
-// Answers a run record: makes calls until one ends the search or is refused, and returns the inputs after the last.
-pub fn calls(
-    inputs: Inputs,
-    table: &[u64],
-    packed: &[u8],
-    stars: &[f32],
-    coords: &[f32],
-    places: &[u32],
-    triples: &[f32],
-    allowance: u64,
-) -> Inputs {
-    let mut now_at = inputs;
-    let mut rounds = u64::MAX;
-    while rounds > 0 {
-        let called = call(
-            now_at, table, packed, stars, coords, places, triples, allowance,
-        );
-        let d = called.inputs;
-        now_at = d;
-        if !called.more {
-            return now_at;
+// Answers a run record: makes calls until one ends the search or is refused, and returns the state after the last.
+fn calls(rt: &impl Print, lent: &Lent, state: State, allowance: u64) -> State {
+    let mut at = state;
+    for _ in 0..u64::MAX {
+        match call(rt, lent, at, allowance) {
+            ControlFlow::Continue(after) => at = after,
+            ControlFlow::Break(after) => return after,
         }
-        rounds -= 1;
     }
-    now_at
+    at
 }
 
 // Makes the opening check and writes its line.
-pub fn open_record(slots: u64, table: &[u64], packed: &[u8], stars: &[f32]) {
-    open_line(opening_check::open_check::open_check(slots, table, packed, stars));
+fn open_record(rt: &impl Print, lent: &Lent) {
+    let opened = opening_check::open_check::open_check(
+        lent.inputs.table.slots,
+        lent.words(),
+        lent.packed(),
+        lent.stars(),
+    );
+    open_line(rt, opened);
 }
 
 // Makes a slot read and writes its line.
-pub fn slot_record(slots: u64, table: &[u64], packed: &[u8], slot: u64) {
-    let found = pattern_catalog::slot_read::slot_of(slots, table, packed, slot);
-    slot_line(
-        found,
-        pattern_catalog::slot_read::entry_of(slots, table, packed, slot),
+fn slot_record(rt: &impl Print, lent: &Lent, slot: u64) {
+    let found = pattern_catalog::slot_read::slot_of(
+        lent.inputs.table.slots,
+        lent.words(),
+        lent.packed(),
+        slot,
     );
+    let entry = pattern_catalog::slot_read::entry_of(
+        lent.inputs.table.slots,
+        lent.words(),
+        lent.packed(),
+        slot,
+    );
+    slot_line(rt, found, entry);
 }
 
-// Makes a sweep into the first places of a lent slice, as many as the record's word `room` says, and writes its line. Returns whether the
-// slice has that room.
-fn sweep_in(w: Words, out: &mut [f32]) -> bool {
-    let room = w.w4 as usize;
-    if room > out.len() {
-        return false;
-    }
-    let estimate = numeric::bits::from_bits(w.w0);
-    let error = option(w.w1, w.w2);
-    let step = numeric::bits::from_bits(w.w3);
-    let swept = fov_sweep::build_fov_sweep(estimate, error, step, &mut out[0..room]);
-    sweep_line(swept, &*out);
-    true
-}
-
-// Makes the sweep of record number n and writes its line. A record with a room above 1,024 values can't be read; returns whether it could.
-pub fn sweep_record(n: u64, w: Words) -> bool {
-    let mut out = [0.0f32; 1024];
-    let ok = sweep_in(w, &mut out);
-    if !ok {
-        stream_line(n);
-    }
-    ok
+// Makes a sweep into as many places as the record's word `room` says, and writes its line. A record with a room above 1,024 values can't be
+// read.
+fn sweep_record(rt: &impl Print, w: Words) -> Result<(), Broken> {
+    let mut places = [0.0; 1024];
+    let out = places.get_mut(..w[4] as usize).ok_or(Broken)?;
+    let swept = fov_sweep::build_fov_sweep(
+        from_bits(w[0]),
+        option(w[1], w[2]),
+        from_bits(w[3]),
+        out,
+    );
+    sweep_line(rt, swept, out);
+    Ok(())
 }
 
 // Returns the candidate of a payload of kind 11. Completing doesn't use its slot, which is 0 here.
 fn candidate_of(w: Words) -> Candidate {
-    let places = [Place(w.w1), Place(w.w2), Place(w.w3), Place(w.w4)];
-    let stars = [
-        StarIndex(w.w5),
-        StarIndex(w.w6),
-        StarIndex(w.w7),
-        StarIndex(w.w8),
-    ];
-    let field = numeric::bits::from_bits(w.w9);
     Candidate {
-        pass: w.w0,
-        places,
+        pass: w[0],
+        places: [w[1], w[2], w[3], w[4]].map(Place),
         slot: 0,
-        stars,
-        field,
-        rebuild: w.w10 != 0,
+        stars: [w[5], w[6], w[7], w[8]].map(StarIndex),
+        field: from_bits(w[9]),
+        rebuild: w[10] != 0,
     }
 }
 
 // Completes the candidate of a record and writes its line.
-pub fn complete_record(w: Words, stars: &[f32], coords: &[f32], places: &[u32], triples: &[f32]) {
-    let candidate = candidate_of(w);
-    let scale = numeric::bits::from_bits(w.w11);
+fn complete_record(rt: &impl Print, lent: &Lent, w: Words) {
     let completed = complete::completing::complete(
-        coords, places, triples, stars, candidate, scale,
+        lent.coords(),
+        lent.places(),
+        lent.triples(),
+        lent.stars(),
+        candidate_of(w),
+        from_bits(w[11]),
     );
-    complete_line(completed);
+    complete_line(rt, completed);
 }

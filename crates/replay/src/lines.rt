@@ -1,239 +1,172 @@
-// Writes the answers to standard output, a line for each.
+// Writes the answers to standard output, a line for each. A line that can't be written is left out.
 use candidates::entry_tests::Candidate;
-use complete::completing::{Completed, Completion, Row};
-use fov_sweep::Swept;
-use opening_check::open_check::Opened;
+use complete::completing::Completed;
+use numeric::bits::to_bits;
 use pattern_catalog::slot_read::Slot;
-use pattern_entry::stars::StarIndex;
 use pattern_search::{Answer, Searched};
-use preprocess::brightness_list::Place;
-use undivided_run::state::{State, Status};
+use question::Question;
+use std::fmt;
+use undivided_run::state::Status;
 
-// The descriptor of standard output.
-const STDOUT_FILENO: i32 = 1;
+// Numbers, with a space before each.
+#[derive(Clone, Copy)]
+struct Numbers([u32; 4]);
 
-// Writes text as it stands.
-fn text(t: &[u8]) {
-    io::write_all(STDOUT_FILENO, t);
+impl fmt::Display for Numbers {
+    fn fmt<W: fmt::Write>(&self, f: &mut fmt::Formatter<W>) -> fmt::Result {
+        for n in &self.0 {
+            write!(f, " {n}")?;
+        }
+        Ok(())
+    }
 }
 
-// Writes a space and a number in decimal.
-fn number(n: u64) {
-    text(b" ");
-    io::print_decimal(STDOUT_FILENO, n);
+// The bits of floats as 8 hexadecimal digits each, with a space before each.
+#[derive(Clone, Copy)]
+struct Bits<'a>(&'a [f32]);
+
+impl fmt::Display for Bits<'_> {
+    fn fmt<W: fmt::Write>(&self, f: &mut fmt::Formatter<W>) -> fmt::Result {
+        for x in self.0 {
+            let bits = to_bits(*x);
+            write!(f, " {bits:08x}")?;
+        }
+        Ok(())
+    }
 }
 
-// Writes a space and the bits of a float as 8 hexadecimal digits.
-fn bits(x: f32) {
-    text(b" ");
-    io::print_hex(STDOUT_FILENO, numeric::bits::to_bits(x) as u64, 8);
+// Bytes as two hexadecimal digits each.
+#[derive(Clone, Copy)]
+struct Bytes<'a>(&'a [u8]);
+
+impl fmt::Display for Bytes<'_> {
+    fn fmt<W: fmt::Write>(&self, f: &mut fmt::Formatter<W>) -> fmt::Result {
+        for b in self.0 {
+            write!(f, "{b:02x}")?;
+        }
+        Ok(())
+    }
 }
 
-// Writes `refused` and the number of the question, without the end of the line.
-fn refusal(n: u32) {
-    text(b"refused");
-    number(n as u64);
+// The bits of the components of four directions.
+#[derive(Clone, Copy)]
+struct Rows([[f32; 3]; 4]);
+
+impl fmt::Display for Rows {
+    fn fmt<W: fmt::Write>(&self, f: &mut fmt::Formatter<W>) -> fmt::Result {
+        for row in &self.0 {
+            let bits = Bits(row);
+            write!(f, "{bits}")?;
+        }
+        Ok(())
+    }
 }
 
-// Writes the whole line of a refusal.
-fn refusal_line(n: u32) {
-    refusal(n);
-    text(b"\n");
+// A candidate, from its pass to its rebuild mark.
+#[derive(Clone, Copy)]
+struct Shown(Candidate);
+
+impl fmt::Display for Shown {
+    fn fmt<W: fmt::Write>(&self, f: &mut fmt::Formatter<W>) -> fmt::Result {
+        let c = self.0;
+        let places = Numbers(c.places.map(|p| p.0));
+        let stars = Numbers(c.stars.map(|s| s.0));
+        let field = to_bits(c.field);
+        let mark = u8::from(c.rebuild);
+        write!(
+            f,
+            "candidate {}{places} slot {} stars{stars} field {field:08x} mark {mark}",
+            c.pass, c.slot
+        )
+    }
+}
+
+// Returns the name of a status.
+fn name_of(status: Status) -> &'static str {
+    match status {
+        Status::TooFew => "toofew",
+        Status::NoMatch => "nomatch",
+        Status::Timeout => "timeout",
+    }
+}
+
+// What a call answered, and the counts of its state.
+#[derive(Clone, Copy)]
+struct Line(Searched);
+
+impl fmt::Display for Line {
+    fn fmt<W: fmt::Write>(&self, f: &mut fmt::Formatter<W>) -> fmt::Result {
+        let Line(searched) = *self;
+        match searched.answer {
+            Ok(Answer::Candidate(c)) => write!(f, "{}", Shown(c))?,
+            Ok(Answer::AllowanceUsed) => write!(f, "used")?,
+            Ok(Answer::Ended(status)) => write!(f, "ended {}", name_of(status))?,
+            Err(question) => write!(f, "refused {}", u32::from(question))?,
+        }
+        let state = searched.state;
+        write!(f, " patterns {} reads {}", state.patterns, state.reads)
+    }
+}
+
+// Writes the line of a refusal, with the number of the question.
+fn refusal_line(rt: &impl Print, question: Question) {
+    let n = u32::from(question);
+    let _ = println!(rt; "refused {n}");
 }
 
 // Writes the line of a record that can't be read: `stream` and its number.
-pub fn stream_line(n: u64) {
-    text(b"stream");
-    number(n);
-    text(b"\n");
+pub fn stream_line(rt: &impl Print, n: u64) {
+    let _ = println!(rt; "stream {n}");
 }
 
-// Writes the end of a call's line: the counts of combinations and reads of its state.
-fn counts(state: State) {
-    text(b" patterns");
-    number(state.patterns);
-    text(b" reads");
-    number(state.reads);
-    text(b"\n");
-}
-
-// Writes a place in the brightness list.
-fn place(p: Place) {
-    number(p.0 as u64);
-}
-
-// Writes four places in the brightness list.
-fn places(four: [Place; 4]) {
-    place(four[0]);
-    place(four[1]);
-    place(four[2]);
-    place(four[3]);
-}
-
-// Writes the index of a star.
-fn star(i: StarIndex) {
-    number(i.0 as u64);
-}
-
-// Writes the indices of four stars.
-fn stars(four: [StarIndex; 4]) {
-    star(four[0]);
-    star(four[1]);
-    star(four[2]);
-    star(four[3]);
-}
-
-// Writes a candidate, from its pass to its rebuild mark.
-fn candidate(c: Candidate) {
-    text(b"candidate");
-    number(c.pass as u64);
-    let p = c.places;
-    places(p);
-    text(b" slot");
-    number(c.slot);
-    text(b" stars");
-    let s = c.stars;
-    stars(s);
-    text(b" field");
-    bits(c.field);
-    text(b" mark");
-    if c.rebuild {
-        number(1);
-    } else {
-        number(0);
-    }
-}
-
-// Writes `ended` and the status.
-fn ending(s: Status) {
-    match s {
-        Status::TooFew => text(b"ended toofew"),
-        Status::NoMatch => text(b"ended nomatch"),
-        Status::Timeout => text(b"ended timeout"),
-    }
-}
-
-// Writes a call's line, and returns whether a run goes on after the call.
-pub fn call_line(s: Searched) -> bool {
-    let answer = s.answer;
-    let state = s.state;
-    match answer {
-        Answer::Candidate => {
-            let c = s.candidate;
-            candidate(c);
-            counts(state);
-            true
-        }
-        Answer::AllowanceUsed => {
-            text(b"used");
-            counts(state);
-            true
-        }
-        Answer::Ended(how) => {
-            ending(how);
-            counts(state);
-            false
-        }
-        Answer::Refused(n) => {
-            refusal(n);
-            counts(state);
-            false
-        }
-    }
+// Writes a call's line.
+pub fn call_line(rt: &impl Print, searched: Searched) {
+    let line = Line(searched);
+    let _ = println!(rt; "{line}");
 }
 
 // Writes the line of the opening check.
-pub fn open_line(o: Opened) {
-    match o {
-        Opened::Passed => text(b"open passed\n"),
-        Opened::Refused(n) => refusal_line(n),
-    }
-}
-
-// Writes a byte as two hexadecimal digits.
-fn byte(b: u8) {
-    io::print_hex(STDOUT_FILENO, b as u64, 2);
-}
-
-// Writes bytes as two hexadecimal digits each.
-fn hex_bytes(b: &[u8]) {
-    let mut i: usize = 0;
-    while i < b.len() {
-        byte(b[i]);
-        i += 1;
+pub fn open_line(rt: &impl Print, opened: Result<(), Question>) {
+    match opened {
+        Ok(()) => {
+            let _ = println!(rt; "open passed");
+        }
+        Err(question) => refusal_line(rt, question),
     }
 }
 
 // Writes the line of a slot read, with the entry's bytes where the slot is filled.
-pub fn slot_line(s: Slot, entry: &[u8]) {
-    match s {
-        Slot::Filled => {
-            text(b"filled ");
-            hex_bytes(entry);
-            text(b"\n");
+pub fn slot_line(rt: &impl Print, found: Result<Slot, Question>, entry: &[u8]) {
+    match found {
+        Ok(Slot::Filled) => {
+            let bytes = Bytes(entry);
+            let _ = println!(rt; "filled {bytes}");
         }
-        Slot::Empty => text(b"empty\n"),
-        Slot::Refused(n) => refusal_line(n),
-    }
-}
-
-// Writes the bits of each float of a slice.
-fn values(v: &[f32]) {
-    let mut i: usize = 0;
-    while i < v.len() {
-        bits(v[i]);
-        i += 1;
-    }
-}
-
-// Writes the bits of the first n floats of a slice, or nothing where it is shorter.
-fn first_values(v: &[f32], n: usize) {
-    if n <= v.len() {
-        values(&v[0..n]);
+        Ok(Slot::Empty) => {
+            let _ = println!(rt; "empty");
+        }
+        Err(question) => refusal_line(rt, question),
     }
 }
 
 // Writes the line of a sweep, with the values that were written to the lent slice v.
-pub fn sweep_line(s: Swept, v: &[f32]) {
-    match s {
-        Swept::Values(n) => {
-            text(b"sweep");
-            number(n);
-            first_values(v, n as usize);
-            text(b"\n");
+pub fn sweep_line(rt: &impl Print, swept: Result<u64, Question>, v: &[f32]) {
+    match swept {
+        Ok(n) => {
+            let values = Bits(v.get(..n as usize).unwrap_or(&[]));
+            let _ = println!(rt; "sweep {n}{values}");
         }
-        Swept::Refused(n) => refusal_line(n),
+        Err(question) => refusal_line(rt, question),
     }
 }
 
-// Writes the three components of a direction.
-fn row(r: Row) {
-    let c = r.c;
-    bits(c[0]);
-    bits(c[1]);
-    bits(c[2]);
-}
-
-// Writes the components of four directions.
-fn rows(r: [Row; 4]) {
-    row(r[0]);
-    row(r[1]);
-    row(r[2]);
-    row(r[3]);
-}
-
 // Writes the line of completing a candidate.
-pub fn complete_line(c: Completed) {
-    let answer = c.answer;
-    match answer {
-        Completion::Done => {
-            text(b"complete");
-            let image = c.image;
-            rows(image);
-            let s = c.stars;
-            rows(s);
-            text(b"\n");
+pub fn complete_line(rt: &impl Print, completed: Result<Completed, Question>) {
+    match completed {
+        Ok(c) => {
+            let (image, stars) = (Rows(c.image), Rows(c.stars));
+            let _ = println!(rt; "complete{image}{stars}");
         }
-        Completion::Refused(n) => refusal_line(n),
+        Err(question) => refusal_line(rt, question),
     }
 }

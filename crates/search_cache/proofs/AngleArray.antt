@@ -1,14 +1,16 @@
 -- The array of directions and angles: looking angles up and storing them, loading directions, clearing angles. Assumes nothing.
 use mathlib.Core.Path.{◌≡◌, refl, sym, ap, ap₂, ◌∙◌, subst}
-use Prim.Native.Nat.{ℕ, suc, ◌+◌, ◌*◌, ◌≤◌, ◌<◌}
+use Prim.Native.Nat.{ℕ, suc, ◌+◌, ◌-◌, ◌*◌, ◌≤◌, ◌<◌}
 use native.Mathlib.Omega.{arith}
 use mathlib.Core.Bool.{Bool, true, false, cond}
-use mathlib.Core.List.{List, []}
+use mathlib.Core.List.{List, [], ◌++◌}
 use mathlib.Core.Logic.{◌⊎◌, inl, inr}
 use lib.IntN.{pos}
-use lib.ListN.{length, get_or, set, length-set}
+use borrow.Rule.Slice.PartMut.{put_mid, post_of, same_len_mid}
+use lib.ListN.{length, get_or, set, take, drop, replicate, length-set, length-drop, length-replicate, get_or-replicate}
 use lib.Seq.{get_or-set_same, get_or-set_other}
 use lib.Ieee.{Float, nan, fin, lt}
+use Rattle.std.proofs.lemmas.List.{get_or_append_left, get_or-append_right, get_or-take, length-take-le}
 use Rattle.numeric.proofs.Order.{lt_or_le}
 use Rattle.numeric.specs.Value.{zero32}
 use Rattle.combinations.specs.Combinations.{Rising}
@@ -105,8 +107,8 @@ still_angle m m' i j s l p = ap₂ angle (s.directions i l) (s.directions j p)
 
 -- What the next store of an angle requires, after other stores.
 pub asked_again : (m m' : List Float) (i j : ℕ) (w : Float) → SameDirections m m' → i < j → j < 64 → w ≡ angle (direction_at m i) (direction_at m j)
-    → (i < j) × (j < 64) × (length m' ≡ 2208) × (w ≡ angle (direction_at m' i) (direction_at m' j))
-asked_again m m' i j w s l p e = (l, p, s.long, e ∙ sym (still_angle m m' i j s (omega arith) p))
+    → (i < j) × (j < 64) × (w ≡ angle (direction_at m' i) (direction_at m' j))
+asked_again m m' i j w s l p e = (l, p, e ∙ sym (still_angle m m' i j s (omega arith) p))
 
 -- The six angles that `edge_angles` gives from what is cached are those of the four directions.
 pub six_are : (m : List Float) (q : Combination) → Rising 64 q → AnglesCached (suc q.d) m → (v : List (List Float)) (known six : List Float) → v ≡ four_at m q → known ≡ six_in m q → six ≡ angles_beside v known → six ≡ angles (four_at m q)
@@ -200,19 +202,35 @@ pub record Forgot (m₀ : List Float) (s : ℕ) (m : List Float) : Type 0 where
   pub directions : (k : ℕ) → k < 64 → direction_at m k ≡ direction_at m₀ k
   pub long : length m ≡ 2208
 
-pub forgot_none : (m : List Float) → length m ≡ 2208 → Forgot m 192 m
-forgot_none m l = record { each = λ x p q. absurd (omega arith); directions = λ k p. refl; long = l }
+-- The places from 192 up to e are written at once.
+pub angles_long : (m : List Float) (e : ℕ) → length m ≡ 2208 → e ≤ 2208 → length (take (e - 192) (drop 192 m)) ≡ e - 192
+angles_long m e l q = length-take-le (e - 192) (drop 192 m) (omega (arith, length-drop 192 m))
 
-pub forgot_more : (m₀ : List Float) (s : ℕ) (m : List Float) → 192 ≤ s → s < 2208 → Forgot m₀ s m → Forgot m₀ (s + 1) (set m s unset)
-forgot_more m₀ s m l p f =
-    record {
-      each = λ x a b. elim (lt_or_le x s) [
-        | inl c ↦ get_or-set_other m s x unset nan (λ e. omega arith) ∙ f.each x a c
-        | inr c ↦ let e : x ≡ s = omega arith in subst (λ z. get_or (set m s unset) z nan ≡ unset) (sym e) (get_or-set_same m s unset nan (omega (arith, f.long)))
-      ];
-      directions = λ k q. store_behind m s k unset (omega arith) ∙ f.directions k q;
-      long = length-set m s unset ∙ f.long;
-    }
+module _ (m ys : List Float) (e : ℕ) (l : length m ≡ 2208) (p : 192 ≤ e) (q : e ≤ 2208) (is : ys ≡ replicate (e - 192) unset) where
+  front : length (take 192 m) ≡ 192
+  front = length-take-le 192 m (omega arith)
+
+  many : length ys ≡ e - 192
+  many = ap length is ∙ length-replicate (e - 192) unset
+
+  place_before : (z : ℕ) → z < 192 → get_or (put_mid 192 (e - 192) m ys) z nan ≡ get_or m z nan
+  place_before z h = get_or_append_left (take 192 m) (ys ++ post_of 192 (e - 192) m) nan z (omega (arith, front)) ∙ get_or-take 192 m z nan h
+
+  place_in : (z : ℕ) → 192 ≤ z → z < e → get_or (put_mid 192 (e - 192) m ys) z nan ≡ unset
+  place_in z h k =
+      get_or-append_right (take 192 m) (ys ++ post_of 192 (e - 192) m) 192 z nan front h
+      ∙ get_or_append_left ys (post_of 192 (e - 192) m) nan (z - 192) (omega (arith, many))
+      ∙ ap (λ (w : List Float). get_or w (z - 192) nan) is
+      ∙ get_or-replicate (e - 192) (z - 192) unset nan (omega arith)
+
+  pub forgot_all : Forgot m e (put_mid 192 (e - 192) m ys)
+  unfolding direction_at
+  forgot_all =
+      record {
+        each = place_in;
+        directions = λ k h. same_three (place_before (3 * k) (omega arith)) (place_before (3 * k + 1) (omega arith)) (place_before (3 * k + 2) (omega arith));
+        long = same_len_mid 192 (e - 192) m ys (many ∙ sym (angles_long m e l q)) ∙ l;
+      }
 
 pub forgot_cached : (m₀ : List Float) (s n : ℕ) (m : List Float) → n ≤ 64 → row_at n ≤ s → Forgot m₀ s m → AnglesCached n m
 forgot_cached m₀ s n m l p f = record { few = l; each = λ i j a b. inl (f.each (row_at j + i) (omega arith) (let r = row_after j n b in omega (arith, r))) }

@@ -21,19 +21,17 @@ fn row(j: usize) -> usize
 
 // Returns the direction at position k.
 fn direction_at(geometry: &[f32; 2208], k: usize) -> [f32; 3]
-    requires { (k < 64) × (length geometry.now ≡ 2208) }
+    requires { k < 64 }
     ensures { result ≡ direction_at geometry.now k }
 {
     let i = 3 * k;
-    let x = geometry[i];
-    let y = geometry[i + 1];
-    let z = geometry[i + 2];
-    [x, y, z]
+    [geometry[i], geometry[i + 1], geometry[i + 2]]
 }
 
 // Returns the directions at the four positions of a combination.
+// Kept: four calls by name, since a map over the four needs a closure with a clause on its position, and is longer.
 fn four_at(geometry: &[f32; 2208], q: Combination) -> [[f32; 3]; 4]
-    requires { Rising 64 q × (length geometry.now ≡ 2208) }
+    requires { Rising 64 q }
     ensures { result ≡ four_at geometry.now q }
 {
     let a = direction_at(geometry, q.a as usize);
@@ -73,7 +71,7 @@ fn edge_angles(v: [[f32; 3]; 4], known: [f32; 6]) -> [f32; 6]
 
 // Stores w, the angle of positions i and j, in the array.
 fn keep(geometry: &mut [f32; 2208], i: u32, j: u32, w: f32)
-    requires { (i < j) × (j < 64) × (length geometry.old ≡ 2208) × (w ≡ angle (direction_at geometry.old i) (direction_at geometry.old j)) }
+    requires { (i < j) × (j < 64) × (w ≡ angle (direction_at geometry.old i) (direction_at geometry.old j)) }
     ensures { SameDirections geometry.old geometry.new }
 {
     let at = row(j as usize) + i as usize;
@@ -82,7 +80,7 @@ fn keep(geometry: &mut [f32; 2208], i: u32, j: u32, w: f32)
 
 // Returns what the array has for positions i and j: their angle, or -1.
 fn cached_at(geometry: &[f32; 2208], i: u32, j: u32) -> f32
-    requires { (i < j) × (j < 64) × (length geometry.now ≡ 2208) }
+    requires { (i < j) × (j < 64) }
     ensures { result ≡ angle_in geometry.now i j }
 {
     geometry[row(j as usize) + i as usize]
@@ -93,19 +91,13 @@ fn all_known(v: [f32; 6]) -> bool
     ensures known { result ≡ true → (k : ℕ) → k < 6 → lt (get_or v k nan) zero32 ≡ false }
     ensures unknown { result ≡ false → (k : ℕ) × ((k < 6) × (lt (get_or v k nan) zero32 ≡ true)) }
 {
-    let mut i = 0;
-    while i < 6 {
-        if v[i] < 0.0 {
-            return false;
-        }
-        i += 1;
-    }
-    true
+    !v.iter().any(|x| *x < 0.0)
 }
 
 // Returns what the array has for the six pairs of four positions, in the source's order.
+// Kept: six calls by name, here and where angles are worked out and stored, since a map needs a list of the six pairs and a closure with clauses.
 fn cached_six(geometry: &[f32; 2208], q: Combination) -> [f32; 6]
-    requires { Rising 64 q × (length geometry.now ≡ 2208) }
+    requires { Rising 64 q }
     ensures { result ≡ six_in geometry.now q }
 {
     let ab = cached_at(geometry, q.a, q.b);
@@ -119,7 +111,7 @@ fn cached_six(geometry: &[f32; 2208], q: Combination) -> [f32; 6]
 
 // The six angles, those not cached yet worked out from the four directions, and stored.
 fn compute_six(geometry: &mut [f32; 2208], q: Combination, kept: [f32; 6]) -> [f32; 6]
-    requires { Rising 64 q × AnglesCached (suc q.d) geometry.old × (length geometry.old ≡ 2208) × (kept ≡ six_in geometry.old q) }
+    requires { Rising 64 q × AnglesCached (suc q.d) geometry.old × (kept ≡ six_in geometry.old q) }
     ensures six { result ≡ angles (four_at geometry.old q) }
     ensures directions { SameDirections geometry.old geometry.new }
 {
@@ -136,7 +128,7 @@ fn compute_six(geometry: &mut [f32; 2208], q: Combination, kept: [f32; 6]) -> [f
 
 // Returns the angles of the six pairs of four positions, in the source's order, and stores those that the array did not have.
 pub fn six_angles(geometry: &mut [f32; 2208], q: Combination) -> [f32; 6]
-    requires { Rising 64 q × AnglesCached (suc q.d) geometry.old × (length geometry.old ≡ 2208) }
+    requires { Rising 64 q × AnglesCached (suc q.d) geometry.old }
     ensures six { result ≡ angles (four_at geometry.old q) }
     ensures directions { SameDirections geometry.old geometry.new }
 {
@@ -149,36 +141,30 @@ pub fn six_angles(geometry: &mut [f32; 2208], q: Combination) -> [f32; 6]
 
 // Writes the first n directions to the array.
 fn put_directions(dirs: &[[f32; 3]; 64], n: usize, geometry: &mut [f32; 2208])
-    requires { (n ≤ 64) × (length dirs.now ≡ 64) × (length geometry.old ≡ 2208) }
+    requires { n ≤ 64 }
     ensures { ((k : ℕ) → k < n → direction_at geometry.new k ≡ three_of (get_or dirs.now k [])) × (length geometry.new ≡ 2208) }
 {
-    let mut k = 0;
-    while k < n {
+    for k in 0..n {
         let v = dirs[k];
         let i = 3 * k;
         geometry[i] = v[0];
         geometry[i + 1] = v[1];
         geometry[i + 2] = v[2];
-        k += 1;
     }
 }
 
 // Marks the angles of the first n positions as not worked out.
 fn clear_angles(n: usize, geometry: &mut [f32; 2208])
-    requires { (n ≤ 64) × (length geometry.old ≡ 2208) }
+    requires { n ≤ 64 }
     ensures { AnglesCached n geometry.new × ((k : ℕ) → k < 64 → direction_at geometry.new k ≡ direction_at geometry.old k) × (length geometry.new ≡ 2208) }
 {
     let end = row(n);
-    let mut i = 192;
-    while i < end {
-        geometry[i] = -1.0;
-        i += 1;
-    }
+    geometry[192..end].fill(-1.0);
 }
 
 // Loads the array for a pass that keeps n spots with these directions: writes the directions and clears the angles.
 pub fn load(dirs: &[[f32; 3]; 64], n: usize, geometry: &mut [f32; 2208])
-    requires { (n ≤ 64) × (length dirs.now ≡ 64) × (length geometry.old ≡ 2208) }
+    requires { n ≤ 64 }
     ensures { DirectionsStored dirs.now n geometry.new }
 {
     put_directions(dirs, n, geometry);

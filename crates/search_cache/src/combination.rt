@@ -3,7 +3,7 @@
 ghost use Rattle.std.specs.Prelude.{◌≡◌, true, length};
 ghost use Rattle.numeric.specs.Ratios.{Ratios};
 ghost use Rattle.pattern.specs.Directions.{Directions};
-ghost use Rattle.combinations.specs.Combinations.{same_combination, Rising};
+ghost use Rattle.combinations.specs.Combinations.{Rising};
 ghost use Rattle.search_cache.specs.AngleArray.{four_at, AnglesCached, SameDirections};
 ghost use Rattle.search_feed.specs.Data.{Frame, settings_ok};
 ghost use Rattle.search_feed.specs.Image.{directions_of};
@@ -20,22 +20,6 @@ use search_feed::SearchConfig;
 pub struct CombinationKeys {
     pub keys: u32,
     pub image: Image,
-}
-
-// Returns whether two combinations are the same four positions.
-fn same_combination(q: Combination, p: Combination) -> bool
-    ensures { result ≡ same_combination q p }
-{
-    if q.a != p.a {
-        return false;
-    }
-    if q.b != p.b {
-        return false;
-    }
-    if q.c != p.c {
-        return false;
-    }
-    q.d == p.d
 }
 
 // Returns what six angles show: the largest edge and the five ratios.
@@ -77,8 +61,7 @@ pub fn load_combination(
     ensures rest { (result.present ≡ cached.present) × (result.pass ≡ cached.pass) × (result.kept ≡ cached.kept) × (length hashes.new ≡ 1024) × SameDirections geometry.old geometry.new }
 {
     if cached.keyed {
-        let loaded = cached.four;
-        if same_combination(loaded, four) {
+        if cached.four == four {
             return cached;
         }
     }

@@ -4,7 +4,7 @@ use Prim.Native.Nat.{ℕ, ◌≤◌, ◌<◌}
 use native.Mathlib.Omega.{arith}
 use native.Mathlib.Decide.{dec_le}
 use mathlib.Core.Bool.{Bool, true, false, cond}
-use mathlib.Core.Option.{none, some}
+use Rattle.std.specs.Prelude.{None, Some}
 use Rattle.pattern_catalog.specs.Blocks.{filled, place}
 use Rattle.opening_check.proofs.Passed.{passed_filled, passed_past}
 use Rattle.pattern_entry.specs.Entry.{bytes_at}
@@ -21,6 +21,6 @@ opened_valid D o x = by (filled D.words x) refl
     below e (yes l) = absurd (let z : ◌≡◌ {A = Bool} true false = sym e ∙ passed_past D.slots D.words D.packed D.stars o x l in let y : ◌≡◌ {A = ℕ} 0 1 = cc in omega arith)
     below e (no l) = omega arith
 
-    by : (b : Bool) → filled D.words x ≡ b → cases (cond b (some (bytes_at D.packed (place D.words x))) none) true (entry_valid D.stars) ≡ true
+    by : (b : Bool) → filled D.words x ≡ b → cases (cond b (Some (bytes_at D.packed (place D.words x))) None) true (entry_valid D.stars) ≡ true
     by false e = refl
     by true e = (passed_filled D.slots D.words D.packed D.stars o x (below e (dec_le D.slots x)) e).valid

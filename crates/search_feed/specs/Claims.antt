@@ -1,7 +1,7 @@
 -- Statements about what the run is fed that demand 3 rests on. proofs/ has a proof of each one under the name at the end of its comment.
 -- Definitions only.
 use Rattle.std.specs.Prelude.{◌≡◌, ℕ, ◌/◌, ◌<◌, true, length}
-use Rattle.std.proofs.Math.Option.{none}
+use Rattle.std.specs.Prelude.{None}
 use Rattle.numeric.specs.Value.{zero32, pi32}
 use Rattle.numeric.specs.Rising as floats
 use Rattle.numeric.specs.Ratios.{Ratios}
@@ -42,4 +42,4 @@ WithinLimits = (D : Data) → FrameFits D.frame → table_fits D.slots D.words �
 
 -- Where the table passes the opening check, question 9 is answered yes at every filled slot: `opened_valid`.
 abbrev pub OpenedValid : Type 0
-OpenedValid = (D : Data) → opening D.slots D.words D.packed D.stars ≡ none → Opened (feed D)
+OpenedValid = (D : Data) → opening D.slots D.words D.packed D.stars ≡ None → Opened (feed D)

@@ -1,6 +1,6 @@
 -- Document 01, "One search": what the undivided run is fed. Definitions only.
 use Rattle.std.specs.Prelude.{ℕ, ◌+◌, ◌*◌, ◌/◌, ◌%◌, cond, List, [], ◌∷◌, length, Float}
-use Rattle.std.proofs.Math.Option.{Option, none, some}
+use Rattle.std.specs.Prelude.{Option, None, Some}
 use Rattle.combinations.specs.declared.Combination.{Combination}
 use Rattle.preprocess.specs.declared.brightness_list.Place.{Place}
 use Rattle.pattern.specs.Key.{home_of, mark_of}
@@ -11,8 +11,6 @@ use Rattle.candidates.specs.Comparisons.{rebuild_of}
 use Rattle.candidates.specs.NoCandidate.{place_of}
 use Rattle.candidates.specs.EntryTests.{test_of}
 use Rattle.candidates.specs.declared.entry_tests.Candidate.{Candidate}
-use Rattle.candidates.specs.declared.entry_tests.Tested.{Tested}
-use Rattle.candidates.specs.declared.entry_tests.Tested.TheVariants.{PassedOver, Hit}
 use Rattle.undivided_run.specs.declared.state.Position.{Position}
 use Rattle.undivided_run.specs.Undivided.{Feed}
 use Rattle.search_feed.specs.Data.{Frame, Data}
@@ -34,7 +32,7 @@ module _ (D : Data) where
   -- The bytes of the entry of slot x, where the slot is filled. They are fewer than 22 where the entry lies outside the packed section; it is
   -- invalid then.
   unfoldable pub entry_at : ℕ → Option (List ℕ)
-  entry_at x = cond (filled D.words x) (some (bytes_at D.packed (place D.words x))) none
+  entry_at x = cond (filled D.words x) (Some (bytes_at D.packed (place D.words x))) None
 
   -- "A candidate carries its combination, slot, four stars, field of view and rebuild mark, and its pass.": the candidate of the read r,
   -- where e are the bytes of its entry and f is the measured field.
@@ -50,15 +48,15 @@ module _ (D : Data) where
       }
 
   -- What the tests say of the entry with the bytes e at the read r.
-  unfoldable pub tested_at : Position → List ℕ → Tested
+  unfoldable pub tested_at : Position → List ℕ → Option Float
   tested_at r e =
       test_of (entry_read e) (mark_of (hash_of_read D.frame r)) D.stars (image_at D.frame r.pass r.four)
       (tolerance_in D.frame.config) (pass_of D.frame r.pass).field D.frame.config.fov
 
   -- The candidate, if any, that the read r gives by what the tests said of its entry.
-  abbrev pub if_hit : Position → List ℕ → Tested → Option Candidate
-  if_hit r e PassedOver = none
-  if_hit r e (Hit f) = some (candidate_of r e f)
+  abbrev pub if_hit : Position → List ℕ → Option Float → Option Candidate
+  if_hit r e None = None
+  if_hit r e (Some f) = Some (candidate_of r e f)
 
   -- What the run is fed. An entry is given as its bytes.
   unfoldable pub feed : Feed (List ℕ) Candidate

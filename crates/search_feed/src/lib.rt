@@ -5,15 +5,17 @@ ghost use Rattle.std.specs.Prelude.{◌≡◌, true, ◌+◌, ◌*◌, ◌%◌, 
 ghost use Rattle.pattern_catalog.specs.Blocks.{table_fits};
 ghost use Rattle.pattern_entry.specs.Entry.{bytes_at};
 ghost use Rattle.pattern.specs.Key.{home_of};
-ghost use Rattle.search_feed.specs.TableRead.{places_in, blank, made_candidate, evaluated_entry, table_read};
+ghost use Rattle.search_feed.specs.TableRead.{places_in, made_candidate, evaluated_entry, table_read};
 
-use candidates::entry_tests::{Candidate, Image, Tested};
+pub mod lent;
+
+use candidates::entry_tests::{Candidate, Image};
 use combinations::Combination;
-use pattern_catalog::slot_read::Found;
 use pattern_entry::stars::StarIndex;
 use preprocess::brightness_list::Place;
+use question::Question;
 use settings::tolerance::Tolerance;
-use undivided_run::state::{Cap, Position};
+use undivided_run::state::Position;
 
 // The settings of a search. In the source's names: pattern_bins, pattern_checking_stars, pattern_max_error, match_radius,
 // match_max_error, fov_max_error_rad, max_patterns_checked, num_patterns.
@@ -25,24 +27,19 @@ pub struct SearchConfig {
     pub radius: f32,
     pub matching: Tolerance,
     pub fov: Tolerance,
-    pub cap: Cap,
+    pub cap: Option<u64>,
     pub patterns: u64,
 }
 
-// What one read sees.
+// What one read sees of a slot that question 9 lets through.
 #[derive(Clone, Copy)]
 pub enum ReadOutcome {
+    // The slot is empty.
     Empty,
-    Invalid,
+    // The slot's entry gives no candidate.
     Passed,
-    Found,
-}
-
-// What one read sees, and the candidate that it gives; where it gives none, that is all zero.
-#[derive(Clone, Copy)]
-pub struct ReadResult {
-    pub outcome: ReadOutcome,
-    pub candidate: Candidate,
+    // The slot's entry gives this candidate.
+    Found(Candidate),
 }
 
 // The slot of probe number c of the key with this hash: (home + c·c) modulo the slot count.
@@ -69,44 +66,30 @@ fn places_at(places: &[u32; 64], q: Combination) -> [Place; 4]
     [a, b, c, d]
 }
 
-// A read that gives no candidate.
-fn blank(outcome: ReadOutcome) -> ReadResult
-    ensures { result ≡ blank outcome }
-{
-    let candidate = candidates::entry_tests::no_candidate();
-    ReadResult { outcome, candidate }
-}
-
 // What the tests make of a valid entry.
 fn make_candidate(
-    tested: Tested,
+    measured: Option<f32>,
     pass: u32,
     places: [Place; 4],
     slot: u64,
     stars: [StarIndex; 4],
     field: f32,
     radius: f32,
-) -> ReadResult
-    ensures { result ≡ made_candidate tested pass places slot stars field radius }
+) -> ReadOutcome
+    ensures { result ≡ made_candidate measured pass places slot stars field radius }
 {
-    match tested {
-        Tested::PassedOver => blank(ReadOutcome::Passed),
-        Tested::Hit(f) => {
-            let rebuild = candidates::comparisons::needs_rebuild(f, field, radius);
-            let candidate = Candidate {
-                pass,
-                places,
-                slot,
-                stars,
-                field: f,
-                rebuild,
-            };
-            ReadResult {
-                outcome: ReadOutcome::Found,
-                candidate,
-            }
-        }
-    }
+    let Some(f) = measured else {
+        return ReadOutcome::Passed;
+    };
+    let rebuild = candidates::comparisons::needs_rebuild(f, field, radius);
+    ReadOutcome::Found(Candidate {
+        pass,
+        places,
+        slot,
+        stars,
+        field: f,
+        rebuild,
+    })
 }
 
 // A filled slot: question 9 of its entry, then the tests.
@@ -121,12 +104,12 @@ fn evaluate_entry(
     field: f32,
     packed: &[u8],
     stars: &[f32],
-) -> ReadResult
+) -> Result<ReadOutcome, Question>
     requires { (entry * 22 + 22 ≤ length packed.now) × (config.bins ≤ 4096) }
     ensures { result ≡ evaluated_entry (bytes_at packed.now entry) slot hash four pass image config field stars.now }
 {
     if !pattern_entry::validity::entry_valid_at(stars, packed, entry) {
-        return blank(ReadOutcome::Invalid);
+        return Err(Question::EntryAndStars);
     }
     let a = entry as usize * 22;
     let b = a + 22;
@@ -134,7 +117,7 @@ fn evaluate_entry(
     let own = config.matching;
     let e = settings::tolerance::max_error(own, config.error, config.bins);
     let fov = config.fov;
-    let tested = candidates::entry_tests::test_entry(
+    let measured = candidates::entry_tests::test_entry(
         read,
         pattern::key::mark_of(hash),
         stars,
@@ -144,7 +127,7 @@ fn evaluate_entry(
         fov,
     );
     let indices = read.stars;
-    make_candidate(tested, pass, four, slot, indices, field, config.radius)
+    Ok(make_candidate(measured, pass, four, slot, indices, field, config.radius))
 }
 
 // One read of the table, for a combination that shows this image.
@@ -159,21 +142,18 @@ pub fn read_slot(
     words: &[u64],
     packed: &[u8],
     stars: &[f32],
-) -> ReadResult
+) -> Result<ReadOutcome, Question>
     requires { (p.key < 1024) × (p.probe < slots) × (p.four.a < 64) × (p.four.b < 64) × (p.four.c < 64) × (p.four.d < 64) × (config.bins ≤ 4096) × (table_fits slots words.now ≡ true) × (length places.now ≡ 64) × (length hashes.now ≡ 1024) }
     ensures { result ≡ table_read words.now packed.now ((home_of (get_or hashes.now p.key 0) slots + p.probe * p.probe) % slots) (get_or hashes.now p.key 0) (places_in places.now p.four) p.pass image config field stars.now }
 {
     let k = p.key as usize;
     let hash = hashes[k];
     let slot = slot_of_probe(hash, p.probe, slots);
-    match pattern_catalog::slot_read::find_in(words, packed, slot) {
-        Found::Empty => blank(ReadOutcome::Empty),
-        Found::Refused(_) => blank(ReadOutcome::Invalid),
-        Found::At(entry) => {
-            let four = places_at(places, p.four);
-            evaluate_entry(
-                entry, slot, hash, four, p.pass, image, config, field, packed, stars,
-            )
-        }
-    }
+    let Some(entry) = pattern_catalog::slot_read::find_in(words, packed, slot)? else {
+        return Ok(ReadOutcome::Empty);
+    };
+    let four = places_at(places, p.four);
+    evaluate_entry(
+        entry, slot, hash, four, p.pass, image, config, field, packed, stars,
+    )
 }

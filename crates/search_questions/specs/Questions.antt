@@ -1,6 +1,6 @@
 -- Document 01, "Questions, first no wins": questions 1 to 8 of a search call. Definitions only.
 use Rattle.std.specs.Prelude.{ℕ, List, Float}
-use Rattle.std.proofs.Math.Option.{Option, none, some}
+use Rattle.std.specs.Prelude.{Option, None, Some}
 use Rattle.preprocess.specs.Questions.{centroids_fit, coordinates_fit}
 use Rattle.preprocess.specs.BrightnessList.{order_fits}
 use Rattle.settings.specs.Passes.{passes_fit}
@@ -12,26 +12,19 @@ use Rattle.search_questions.specs.Question8.{state_fits}
 use Rattle.undivided_run.specs.Undivided.{cases}
 use Rattle.search_feed.specs.Data.{Frame, Data, settings_ok}
 use Rattle.search_feed.specs.Feed.{feed}
-use Rattle.search_questions.specs.declared.questions_1_to_7.Questions1To7.{Questions1To7}
-use Rattle.search_questions.specs.declared.questions_1_to_7.Questions1To7.TheVariants.{Clear, No}
 
 -- The number of the first of questions 1 to 7 whose answer is no, if any is.
 unfoldable pub first_seven : Frame → ℕ → List ℕ → List Float → Option ℕ
 first_seven F slots words stars =
-    ask (centroids_fit F.centroids) (some 1)
-    (ask (coordinates_fit F.centroids) (some 2)
-    (ask (order_fits F.order F.centroids) (some 3)
-    (ask (settings_ok F.config) (some 4)
-    (ask (passes_fit F.passes) (some 5)
-    (ask (table_fits slots words) (some 6)
-    (ask (stars_fit stars) (some 7) none))))))
+    ask (centroids_fit F.centroids) (Some 1)
+    (ask (coordinates_fit F.centroids) (Some 2)
+    (ask (order_fits F.order F.centroids) (Some 3)
+    (ask (settings_ok F.config) (Some 4)
+    (ask (passes_fit F.passes) (Some 5)
+    (ask (table_fits slots words) (Some 6)
+    (ask (stars_fit stars) (Some 7) None))))))
 
 -- The number of the first of questions 1 to 8 whose answer is no, if any is.
 unfoldable pub first_no : Data → State → Option ℕ
 first_no D st =
-    cases (first_seven D.frame D.slots D.words D.stars) (ask (state_fits (feed D) st) (some 8) none) λ n. some n
-
--- The number of the first no, if any is, that the code returned.
-abbrev pub asked_of : Questions1To7 → Option ℕ
-asked_of Clear = none
-asked_of (No n) = some n
+    cases (first_seven D.frame D.slots D.words D.stars) (ask (state_fits (feed D) st) (Some 8) None) λ n. Some n

@@ -3,10 +3,8 @@ use mathlib.Core.Path.{◌≡◌, refl, sym, ap, ◌∙◌}
 use Prim.Native.Nat.{ℕ, zero, suc, ◌-◌, ◌<◌, ◌≤◌}
 use native.Mathlib.Omega.{arith}
 use mathlib.Core.Bool.{Bool, true, false, false≢true}
-use mathlib.Core.Option.{Option, none, some}
+use Rattle.std.specs.Prelude.{Option, None, Some}
 use Rattle.pattern_search.specs.declared.Searched.{Searched}
-use Rattle.pattern_search.specs.declared.Answer.{Answer as Said}
-use Rattle.pattern_search.specs.declared.Answer.TheVariants.{Candidate, AllowanceUsed, Ended, Refused}
 use Rattle.candidates.specs.declared.entry_tests.Candidate.{Candidate as Found}
 use Rattle.undivided_run.specs.declared.state.State.{State}
 use Rattle.undivided_run.specs.Undivided.{cases}
@@ -26,22 +24,14 @@ unfolding zero_call said let_through
 zero_through st (Goes r) = refl
 zero_through st (Ends s) = refl
 
--- An answer other than `Refused` is that of a call which was let through.
-pub others_through : (a : Said) → ((n : ℕ) → a ≡ Refused n → ⊥) → let_through a ≡ true
-unfolding let_through
-others_through Candidate h = refl
-others_through AllowanceUsed h = refl
-others_through (Ended s) h = refl
-others_through (Refused n) h = absurd (h n refl)
-
 -- What a call answers and leaves, by the number of the first no among questions 1 to 8.
 abbrev answered : Data → State → ℕ → Option ℕ → Answer Found × State
 answered D st a o = cases o (search (feed D) D.frame.config.cap st a) λ k. (refused k, st)
 
 refused_by : (D : Data) (st : State) (a : ℕ) (o : Option ℕ) → let_through (said (answered D st 0 o).0) ≡ false → (continuing (said (answered D st a o).0) ≡ false) × ((answered D st a o).1 ≡ st)
 unfolding cases search call said let_through continuing
-refused_by D st a none e = absurd (false≢true (sym e ∙ zero_through st (resume (first_read (feed D) D.frame.config.cap) st.phase)))
-refused_by D st a (some k) e = (refl, refl)
+refused_by D st a None e = absurd (false≢true (sym e ∙ zero_through st (resume (first_read (feed D) D.frame.config.cap) st.phase)))
+refused_by D st a (Some k) e = (refl, refl)
 
 -- A call that is refused with allowance 0 is refused with any allowance, and leaves the state received.
 pub refused_any : (D : Data) (st : State) (a : ℕ) → let_through (called D st 0).answer ≡ false → (continuing (called D st a).answer ≡ false) × ((called D st a).state ≡ st)

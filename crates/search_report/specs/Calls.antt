@@ -1,29 +1,33 @@
--- What one call returns, and the state after the calls of a whole search. Definitions only.
-use Rattle.std.specs.Prelude.{ℕ, zero, suc, Bool, true, false, cond}
+-- What a search is lent, what one call returns, and the state after the calls of a whole search. Definitions only.
+use Rattle.std.specs.Prelude.{ℕ, zero, suc, Bool, true, false, cond, Result, Ok, Err}
+use Rattle.question.specs.declared.Question.{Question}
 use Rattle.undivided_run.specs.declared.state.State.{State}
-use Rattle.search_feed.specs.Data.{Data}
+use Rattle.search_feed.specs.Data.{Data, frame_of, data_of}
+use Rattle.search_report.specs.declared.data.Data.{Data as Lent}
 use Rattle.pattern_search.specs.declared.Answer.{Answer}
-use Rattle.pattern_search.specs.declared.Answer.TheVariants.{Candidate, AllowanceUsed, Ended, Refused}
+use Rattle.pattern_search.specs.declared.Answer.TheVariants.{Candidate, AllowanceUsed, Ended}
 use Rattle.pattern_search.specs.declared.Searched.{Searched}
 use Rattle.pattern_search.specs.Demand3.{returned}
+
+-- What a search is fed by the data that it is lent.
+abbrev pub lent : Lent → Data
+lent d = data_of (frame_of d.coords.now d.places.now d.config d.triples.now) d.slots d.words.now d.packed.now d.stars.now
 
 -- What one call of the search returns, given its data, a state and an allowance.
 abbrev pub called : Data → State → ℕ → Searched
 called D st allowance = returned st (record { lent_data = D; allowance = allowance })
 
 -- Whether a call was let through by the questions.
-unfoldable pub let_through : Answer → Bool
-let_through Candidate = true
-let_through AllowanceUsed = true
-let_through (Ended s) = true
-let_through (Refused n) = false
+unfoldable pub let_through : Result Answer Question → Bool
+let_through (Ok a) = true
+let_through (Err q) = false
 
 -- Whether a search goes on after a call. It doesn't where the call ended it or was refused.
-unfoldable pub continuing : Answer → Bool
-continuing Candidate = true
-continuing AllowanceUsed = true
-continuing (Ended s) = false
-continuing (Refused n) = false
+unfoldable pub continuing : Result Answer Question → Bool
+continuing (Ok (Candidate c)) = true
+continuing (Ok AllowanceUsed) = true
+continuing (Ok (Ended s)) = false
+continuing (Err q) = false
 
 -- The state after a whole search. Its calls have an allowance of `reads` reads each, and every one is given the state that the one before
 -- left, until one ends the search or is refused. `most` is the number of calls that may be made.

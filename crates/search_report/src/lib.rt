@@ -2,6 +2,8 @@
 #![tactic(auto)]
 
 mod calls;
+mod data;
 mod frame_lines;
 mod lines;
 pub mod report;
+mod words;

@@ -1,4 +1,5 @@
-// The functions of this crate for others. They write to standard output what a search does, in words for a person to read.
+// What this crate has for others: the data of a search, whose methods make it and report it, and the line of a table. They write to standard
+// output what a search does, in words for a person to read.
 
-pub use crate::calls::{report_call, report_search};
-pub use crate::lines::{number, table_line, text};
+pub use crate::data::Data;
+pub use crate::lines::table_line;

@@ -7,7 +7,7 @@ use lib.ListN.{length}
 use lib.Ieee.{Float}
 use Rattle.undivided_run.specs.declared.state.Status.{Status}
 use Rattle.undivided_run.specs.declared.state.Status.TheVariants.{NoMatch}
-use Rattle.undivided_run.specs.declared.state.Cap.{Cap}
+use Rattle.undivided_run.specs.Undivided.{Cap}
 use Rattle.undivided_run.specs.declared.state.Position.{Position}
 use Rattle.undivided_run.specs.declared.state.Next.{Next}
 use Rattle.undivided_run.specs.declared.state.Next.TheVariants.{Goes, Ends}

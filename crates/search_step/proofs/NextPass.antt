@@ -3,7 +3,7 @@ use mathlib.Core.Path.{◌≡◌, refl, sym, ◌∙◌, ap}
 use Prim.Native.Nat.{ℕ, ◌+◌, ◌-◌, ◌/◌, ◌≤◌, ◌<◌}
 use native.Mathlib.Omega.{arith}
 use mathlib.Core.Bool.{Bool, true, false, cond, ◌||◌}
-use mathlib.Core.Option.{Option, none, some}
+use Rattle.std.specs.Prelude.{Option, None, Some}
 use mathlib.Core.List.{List}
 use lib.Dec.{ltb}
 use lib.ListN.{length}
@@ -11,9 +11,9 @@ use lib.Ieee.{Float}
 use borrow.Author.Tests.{ltb-true, ltb-false}
 use Rattle.combinations.specs.declared.Combination.{Combination}
 use Rattle.combinations.specs.Successor.{first_combination}
-use Rattle.combinations.specs.declared.NextCombination.TheVariants.{Next as Following, Nothing}
+use Rattle.std.specs.Prelude.{Option, None, Some}
 use Rattle.undivided_run.specs.declared.state.Status.{Status}
-use Rattle.undivided_run.specs.declared.state.Cap.{Cap}
+use Rattle.undivided_run.specs.Undivided.{Cap}
 use Rattle.undivided_run.specs.declared.state.Status.TheVariants.{TooFew, NoMatch, Timeout}
 use Rattle.undivided_run.specs.declared.state.Next.{Next}
 use Rattle.undivided_run.specs.declared.state.Next.TheVariants.{Goes, Ends}
@@ -43,8 +43,8 @@ module _ {E C : Type 0} (F : Feed E C) (cap : Cap) (tried i : ℕ) (s : Status) 
       by : (x : Bool) → ltb k 4 ≡ x → (z : Bool) → off ≡ z → (m : Option Combination) → first_combination k ≡ m → First q ≡ begun x z m → from F cap tried i s ≡ Goes (first_of i q)
       by true xe z ze m me w = absurd (let u : ◌≡◌ {A = ℕ} 0 1 = cc in omega arith)
       by false xe true ze m me w = absurd (let u : ◌≡◌ {A = ℕ} 0 1 = cc in omega arith)
-      by false xe false ze none me w = absurd (let u : ◌≡◌ {A = ℕ} 0 1 = cc in omega arith)
-      by false xe false ze (some p) me w = from_open F cap tried i s h b e f k ke (ltb-false k 4 xe) ze (Following p) (sym me) q cc
+      by false xe false ze None me w = absurd (let u : ◌≡◌ {A = ℕ} 0 1 = cc in omega arith)
+      by false xe false ze (Some p) me w = from_open F cap tried i s h b e f k ke (ltb-false k 4 xe) ze (Some p) (sym me) q cc
 
   passes_over : (t : Status) → g ≡ Over t → from F cap tried (i + 1) t ≡ from F cap tried i s
   unfolding start_of_pass cases
@@ -53,8 +53,8 @@ module _ {E C : Type 0} (F : Feed E C) (cap : Cap) (tried i : ℕ) (s : Status) 
       by : (x : Bool) → ltb k 4 ≡ x → (z : Bool) → off ≡ z → (m : Option Combination) → first_combination k ≡ m → Over t ≡ begun x z m → from F cap tried (i + 1) t ≡ from F cap tried i s
       by true xe z ze m me w = let u : t ≡ TooFew = cc in ap (from F cap tried (i + 1)) u ∙ from_few F cap tried i s h b e f k ke (ltb-true k 4 xe)
       by false xe true ze m me w = let u : t ≡ NoMatch = cc in ap (from F cap tried (i + 1)) u ∙ from_off F cap tried i s h b e f k ke (ltb-false k 4 xe) ze
-      by false xe false ze none me w = let u : t ≡ NoMatch = cc in ap (from F cap tried (i + 1)) u ∙ from_none F cap tried i s h b e f k ke (ltb-false k 4 xe) ze Nothing (sym me) refl
-      by false xe false ze (some p) me w = absurd (let u : ◌≡◌ {A = ℕ} 0 1 = cc in omega arith)
+      by false xe false ze None me w = let u : t ≡ NoMatch = cc in ap (from F cap tried (i + 1)) u ∙ from_none F cap tried i s h b e f k ke (ltb-false k 4 xe) ze None (sym me) refl
+      by false xe false ze (Some p) me w = absurd (let u : ◌≡◌ {A = ℕ} 0 1 = cc in omega arith)
 
 -- ---- The same for what the search is fed.
 module _ (fr : Frame) (slots : ℕ) (w e : List ℕ) (x : List Float) (cap : Cap) (tried i : ℕ) (s : Status) where

@@ -6,11 +6,10 @@ use lib.ListN.{length}
 use lib.Ieee.{Float}
 use mathlib.Core.Bool.{Bool, true, false}
 use Rattle.combinations.specs.declared.Combination.{Combination}
-use Rattle.combinations.specs.Successor.{next_combination, maybe_of}
-use Rattle.combinations.specs.declared.NextCombination.{NextCombination}
-use Rattle.combinations.specs.declared.NextCombination.TheVariants.{Next as Following, Nothing}
+use Rattle.combinations.specs.Successor.{next_combination}
+use Rattle.std.specs.Prelude.{Option, None, Some}
 use Rattle.undivided_run.specs.declared.state.Status.TheVariants.{NoMatch}
-use Rattle.undivided_run.specs.declared.state.Cap.{Cap}
+use Rattle.undivided_run.specs.Undivided.{Cap}
 use Rattle.undivided_run.specs.declared.state.Position.{Position}
 use Rattle.undivided_run.specs.declared.state.Next.{Next}
 use Rattle.undivided_run.specs.declared.state.Next.TheVariants.{Goes}
@@ -24,12 +23,12 @@ use Rattle.search_feed.specs.Feed.{feed}
 
 module _ (fr : Frame) (slots : ℕ) (w e : List ℕ) (x : List Float) (cap : Cap) (tried : ℕ) where
   -- after the last read of a combination
-  module _ (i : ℕ) (q : Combination) (k : ℕ) (ke : k ≡ length (kept_places fr i)) (m : NextCombination) (me : maybe_of m ≡ next_combination k q) where
-    pub four_follows : (p : Combination) → m ≡ Following p → after_combination (feed (data_of fr slots w e x)) cap i q tried ≡ to_combination cap tried i p
+  module _ (i : ℕ) (q : Combination) (k : ℕ) (ke : k ≡ length (kept_places fr i)) (m : Option Combination) (me : m ≡ next_combination k q) where
+    pub four_follows : (p : Combination) → m ≡ Some p → after_combination (feed (data_of fr slots w e x)) cap i q tried ≡ to_combination cap tried i p
     unfolding feed
     four_follows p o = four_more (feed (data_of fr slots w e x)) cap tried i q k ke m me p o
 
-    pub four_ends : m ≡ Nothing → after_combination (feed (data_of fr slots w e x)) cap i q tried ≡ to_pass (feed (data_of fr slots w e x)) cap (length fr.passes / 3 - (i + 1)) (i + 1) NoMatch tried
+    pub four_ends : m ≡ None → after_combination (feed (data_of fr slots w e x)) cap i q tried ≡ to_pass (feed (data_of fr slots w e x)) cap (length fr.passes / 3 - (i + 1)) (i + 1) NoMatch tried
     unfolding feed
     four_ends o = four_last (feed (data_of fr slots w e x)) cap tried i q k ke m me o
 

@@ -3,9 +3,8 @@ use mathlib.Core.Path.{◌≡◌}
 use Prim.Native.Nat.{ℕ, ◌≤◌, ◌<◌}
 use borrow.Author.Tests.{lt-ltb, le-ltb}
 use Rattle.combinations.specs.declared.Combination.{Combination}
-use Rattle.combinations.specs.Successor.{first_combination, maybe_of}
-use Rattle.combinations.specs.declared.NextCombination.{NextCombination}
-use Rattle.combinations.specs.declared.NextCombination.TheVariants.{Next as Following, Nothing}
+use Rattle.combinations.specs.Successor.{first_combination}
+use Rattle.std.specs.Prelude.{Option, None, Some}
 use Rattle.undivided_run.specs.declared.state.Status.TheVariants.{TooFew, NoMatch}
 use Rattle.undivided_run.specs.Undivided.{cases}
 use Rattle.undivided_run.proofs.Steps.{zero_is, zero_not}
@@ -27,11 +26,11 @@ module _ (n slots patterns : ℕ) where
       unfolding start_of_pass
       start_pass_no_pattern p = rw (le-ltb _ _ h, zero_not _ z, zero_is _ p)
 
-      module _ (p : patterns ≡ 0 → ⊥) (m : NextCombination) (e : maybe_of m ≡ first_combination n) where
-        pub start_pass_open : (q : Combination) → m ≡ Following q → First q ≡ start_of_pass n slots patterns
+      module _ (p : patterns ≡ 0 → ⊥) (m : Option Combination) (e : m ≡ first_combination n) where
+        pub start_pass_open : (q : Combination) → m ≡ Some q → First q ≡ start_of_pass n slots patterns
         unfolding start_of_pass cases
         start_pass_open q f = rw (le-ltb _ _ h, zero_not _ z, zero_not _ p, ← e, f)
 
-        pub start_pass_none : m ≡ Nothing → Over NoMatch ≡ start_of_pass n slots patterns
+        pub start_pass_none : m ≡ None → Over NoMatch ≡ start_of_pass n slots patterns
         unfolding start_of_pass cases
         start_pass_none f = rw (le-ltb _ _ h, zero_not _ z, zero_not _ p, ← e, f)

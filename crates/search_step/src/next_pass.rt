@@ -10,7 +10,7 @@ ghost use Rattle.search_step.specs.CacheAfter.{CacheAfter};
 use crate::pass_start::PassStart;
 use search_cache::pass::Cache;
 use search_feed::SearchConfig;
-use undivided_run::state::{Next, Position, Status};
+use undivided_run::state::{Next, Position, Status, reached};
 
 // The next read or the end of the run, with the cache as working that out left it.
 #[derive(Clone, Copy)]
@@ -44,7 +44,7 @@ pub fn to_pass(
     let mut i = from;
     let mut s = status;
     while i < n {
-        if cap.reached(tried) {
+        if reached(cap, tried) {
             return Reached {
                 next: Next::Ends(Status::Timeout),
                 cached: current,

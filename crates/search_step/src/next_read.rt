@@ -9,7 +9,6 @@ ghost use Rattle.search_step.specs.CacheAfter.{CacheAfter};
 ghost use Rattle.search_step.specs.LoadedRead.{LoadedRead};
 
 use crate::next_pass::Reached;
-use combinations::NextCombination;
 use search_cache::pass::Cache;
 use search_feed::SearchConfig;
 use undivided_run::state::{Next, Position, Status};
@@ -33,14 +32,11 @@ fn after_combination(
 {
     let four = p.four;
     match four.next(cached.kept) {
-        NextCombination::Next(q) => {
-            let cap = config.cap;
-            Reached {
-                next: cap.to_combination(tried, p.pass, q),
-                cached,
-            }
-        }
-        NextCombination::Nothing => crate::next_pass::to_pass(
+        Some(q) => Reached {
+            next: Next::to_combination(config.cap, tried, p.pass, q),
+            cached,
+        },
+        None => crate::next_pass::to_pass(
             centroids,
             order,
             config,

@@ -2,10 +2,11 @@
 ghost use Rattle.std.specs.Prelude.{◌≡◌, ◌≤◌};
 ghost use Rattle.search_step.specs.PassStart.{start_of_pass};
 
-use combinations::{Combination, NextCombination};
+use combinations::Combination;
 use undivided_run::state::Status;
 
 // How a pass begins: with its first combination, or, where it makes no read, with its status.
+// Kept: not a Result, since a pass without a read has not failed; its status is what the run may end with.
 #[derive(Clone, Copy)]
 pub enum PassStart {
     First(Combination),
@@ -27,7 +28,7 @@ pub fn start_pass(kept: u32, slots: u64, patterns: u64) -> PassStart
         return PassStart::Over(Status::NoMatch);
     }
     match combinations::first_combination(kept) {
-        NextCombination::Next(q) => PassStart::First(q),
-        NextCombination::Nothing => PassStart::Over(Status::NoMatch),
+        Some(q) => PassStart::First(q),
+        None => PassStart::Over(Status::NoMatch),
     }
 }

@@ -1,31 +1,26 @@
--- Question 5: the loop over the passes, its tests, and what a yes to it says of each pass. Assumes nothing.
-use mathlib.Core.Path.{◌≡◌, sym, subst}
+-- Question 5: what `all` says of the passes, its tests, and what a yes to it says of each pass. Assumes nothing.
+use mathlib.Core.Path.{◌≡◌, refl, sym, ap, subst, ◌∙◌}
 use Prim.Native.Nat.{ℕ, zero, suc, ◌/◌, ◌%◌, ◌≤◌, ◌<◌}
 use native.Mathlib.Omega.{arith}
 use mathlib.Core.Logic.{inl, inr}
 use native.Mathlib.Nat.{eq-or-lt_of_le}
-use mathlib.Core.Bool.{Bool, true, false}
+use mathlib.Core.Bool.{Bool, true, false, ◌&&◌}
 use mathlib.Core.List.{List}
 use lib.Dec.{leb, eqb}
 use lib.ListN.{length}
 use lib.Ieee.{Float}
 use borrow.Author.Tests.{leb-true, eq-eqb, ne_eqb, le-leb, lt-leb}
+use Rattle.std.specs.List.{list_all, range_with_len}
+use Rattle.numeric.proofs.AllBelow.{all_more}
 use Rattle.numeric.proofs.Tests.{both}
 use Rattle.settings.specs.PassLimits.{field_fits, scale_fits, cosine_fits}
 use Rattle.settings.specs.Passes.{pass_fits, pass_at, first_fit, passes_fit}
 
--- Where pass i doesn't fit, the first n passes don't all fit for any n above i.
-pub first_fails : (ps : List Float) (i n : ℕ) → first_fit ps i ≡ true → pass_fits (pass_at ps i) ≡ false → i < n → false ≡ first_fit ps n
+-- What `all` says of the first n passes.
+pub first_is : (ps : List Float) (n : ℕ) → list_all (λ i. pass_fits (pass_at ps i)) (range_with_len 0 n) ≡ first_fit ps n
 unfolding first_fit
-first_fails ps i zero h k l = absurd (omega arith)
-first_fails ps i (suc n) h k l = elim (eq-or-lt_of_le l) [
-  | inl e ↦ let z : i ≡ n = omega arith in rw (← z, h, k)
-  | inr m ↦ rw (← first_fails ps i n h k (omega arith))
-]
-
-pub first_more : (ps : List Float) (i : ℕ) → first_fit ps i ≡ true → pass_fits (pass_at ps i) ≡ true → first_fit ps (suc i) ≡ true
-unfolding first_fit
-first_more ps i h k = rw (h, k)
+first_is ps zero = refl
+first_is ps (suc n) = all_more (λ i. pass_fits (pass_at ps i)) n ∙ ap (◌&& pass_fits (pass_at ps n)) (first_is ps n)
 
 first_each : (ps : List Float) (i n : ℕ) → first_fit ps n ≡ true → i < n → pass_fits (pass_at ps i) ≡ true
 unfolding first_fit

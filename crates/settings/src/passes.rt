@@ -43,14 +43,7 @@ fn first_fit(passes: &[f32], n: u32) -> bool
     requires { n ≤ length passes.now / 3 }
     ensures { result ≡ first_fit passes.now n }
 {
-    let mut i: u32 = 0;
-    while i < n {
-        if !pass_at(passes, i).fits() {
-            return false;
-        }
-        i += 1;
-    }
-    true
+    (0..n).all(|i| pass_at(passes, i).fits())
 }
 
 // Question 5: is the pass slice 1 to 256 whole triples, each within its limits?

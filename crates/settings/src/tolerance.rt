@@ -3,6 +3,7 @@ ghost use Rattle.std.specs.Prelude.{◌≡◌, ◌≤◌};
 ghost use Rattle.settings.specs.Tolerance.{option_fits, wanted_of, tolerance_of};
 
 // A float that is present with its value or absent: match_max_error and fov_max_error_rad.
+// Kept: not std's Option, since document 01 names this enum among its forms.
 #[derive(Clone, Copy)]
 pub enum Tolerance {
     Given(f32),

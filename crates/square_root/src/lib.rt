@@ -8,22 +8,13 @@ ghost use Rattle.std.specs.Float.Ieee.Positive.{positive};
 ghost use Rattle.square_root.specs.Root.{root_of};
 ghost use Rattle.square_root.specs.Steps.{Nearest, Pattern};
 
-// Returns the whole number nearest to the root of n, found by halving an interval. It serves where the guess fails its test.
+// Returns the whole number nearest to the root of n, from the root rounded down. It serves where the guess fails its test.
 fn search(n: u64) -> u64
     requires { (70368744177664 ≤ n) × (n ≤ 281474959933440) }
     ensures { Nearest n result }
 {
-    let mut lo: u64 = 8388608;
-    let mut hi: u64 = 16777215;
-    while lo < hi {
-        let mid = (lo + hi) / 2;
-        if n <= mid * mid + mid {
-            hi = mid;
-        } else {
-            lo = mid + 1;
-        }
-    }
-    lo
+    let q = n.isqrt();
+    if n <= q * q + q { q } else { q + 1 }
 }
 
 // Returns about the root of t, from a guess y at 1 / √t: one step of Newton's method and then two terms of a series.

@@ -6,7 +6,7 @@ use mathlib.Core.Bool.{Bool, true, false, ◌&&◌, cond, false≢true}
 use mathlib.Core.List.{List}
 use lib.Dec.{eqb}
 use lib.ListN.{length}
-use mathlib.Core.Option.{none, some}
+use Rattle.std.specs.Prelude.{None, Some, Result, Ok, Err, is_ok}
 use lib.Ieee.{Float}
 use borrow.Author.Tests.{lt-ltb}
 use Rattle.settings.specs.PassLimits.{scale_fits}
@@ -17,7 +17,7 @@ use Rattle.pattern_entry.specs.Entry.{entry_read}
 use Rattle.pattern_entry.specs.Validity.{entry_valid}
 use Rattle.candidates.specs.declared.entry_tests.Candidate.{Candidate}
 use Rattle.complete.specs.Question14.{places_rise, candidate_fits, four_valid}
-use Rattle.complete.specs.declared.completing.Completion.{Completion}
+use Rattle.question.specs.declared.Question.{Question}
 use Rattle.complete.specs.declared.completing.Completed.{Completed}
 use Rattle.complete.specs.Completing.{completed_of}
 use Rattle.complete.proofs.Answers.{done_exactly}
@@ -32,7 +32,7 @@ use Rattle.search_feed.specs.Image.{kept_places}
 use Rattle.search_feed.specs.Feed.{places_of, slot_at, entry_at, candidate_of, feed}
 use Rattle.search_feed.proofs.KeptSpots.{place_below, place_rises}
 use Rattle.search_questions.proofs.Questions1To7.{seven_asked, seven_stars}
-use Rattle.pattern_search.specs.Answers.{said, shown, searched}
+use Rattle.pattern_search.specs.Answers.{said, searched}
 use Rattle.pattern_search.specs.Claims.{Gives, bytes}
 use Rattle.pattern_search.specs.Demand3.{lent_by}
 use Rattle.pattern_search.proofs.Demand3.{candidate_read}
@@ -63,7 +63,7 @@ valid_filled : (D : Data) (r : Position) → filled D.words (slot_at D r) ≡ tr
 unfolding valid_at feed slot_of slot_at entry_at cases
 valid_filled D r f s = by (filled D.words (slot_at D r)) f s
   where
-    by : (b : Bool) → b ≡ true → cases (cond b (some (bytes D r)) none) true (entry_valid D.stars) ≡ true → entry_valid D.stars (bytes D r) ≡ true
+    by : (b : Bool) → b ≡ true → cases (cond b (Some (bytes D r)) None) true (entry_valid D.stars) ≡ true → entry_valid D.stars (bytes D r) ≡ true
     by true _ s = s
     by false e _ = absurd (false≢true e)
 
@@ -107,20 +107,21 @@ completable st g x scale h sc =
 
 -- ---- Through C, where the answer 0 is that of a candidate.
 zero_candidate : (raw : StarState) (a : ℕ) (t : Answer Candidate × State) → (answer_of raw a (searched t)).answer ≡ 0 → (x : Candidate) × (t.0 ≡ candidate x) × ((answer_of raw a (searched t)).candidate ≡ candidate_numbers x)
-unfolding said shown
+unfolding said
 zero_candidate raw a (candidate x, s) h = (x, refl, refl)
 zero_candidate raw a (used, s) h = absurd (omega (arith, h))
 zero_candidate raw a (over z, s) h = absurd (omega (arith, h))
 zero_candidate raw a (refused k, s) h = absurd (omega (arith, h))
 
-done_zero : (c : Completed) → c.answer ≡ Completion.Done → (completed_numbers c).answer ≡ 0
-done_zero c e = rw e
+done_zero : (c : Result Completed Question) → is_ok c ≡ true → (completed_numbers c).answer ≡ 0
+done_zero (Ok x) e = refl
+done_zero (Err q) e = absurd (false≢true e)
 
 pub completable_through_c : CompletableThroughC
 completable_through_c raw g scale h sc =
     let st = state_of raw in
     let (x, e, c) = zero_candidate raw g.allowance (search_call st (lent_by (given_by g))) h in
-    let f = says (search_call st (lent_by (given_by g))) ∙ e in
+    let f = says st (given_by g) ∙ e in
     let (s, r, here, valid, o) = candidate_read st (given_by g) x f in
     let l = four_each (given_by g).lent_data r x here valid ((gives_exactly (given_by g).lent_data r x).0 o) in
     let b : candidate_from (answered raw g).candidate ≡ x = ap candidate_from c ∙ candidate_back x l.0 l.1 in

@@ -4,7 +4,7 @@ use Prim.Native.Nat.{ℕ, zero, suc, ◌<◌}
 use native.Mathlib.Omega.{arith}
 use mathlib.Core.Bool.{Bool, true, false, cond}
 use mathlib.Core.Logic.{◌⊎◌, inl, inr}
-use mathlib.Core.Option.{Option, none, some}
+use Rattle.std.specs.Prelude.{Option, None, Some}
 use lib.Dec.{eqb}
 use lib.ListN.{take, drop}
 use borrow.Author.Tests.{eqb-true}
@@ -21,8 +21,9 @@ use Rattle.undivided_run.specs.Step.{Lent, start, search_call}
 use Rattle.undivided_run.proofs.Demand3.{refused_keeps}
 use Rattle.undivided_run.proofs.Progress.{zero_keeps}
 use Rattle.search_questions.specs.Questions.{first_no}
-use Rattle.pattern_search.specs.Answers.{lent_of, said, shown, searched, searched_says}
+use Rattle.pattern_search.specs.Answers.{lent_of, said, searched, searched_says}
 use Rattle.pattern_search.specs.Demand3.{lent_by, returned, answers_of, replies, last_state, run}
+use Rattle.pattern_search.proofs.Answers.{first_asks}
 use Rattle.pattern_search.proofs.Demand3.{listed}
 use Rattle.c_types.specs.State.{unknown, state_of}
 use Rattle.c_types.specs.Answer.{status_number, plain_numbers, state_numbers, candidate_numbers, answer_of}
@@ -36,7 +37,7 @@ use Rattle.star_search.proofs.RawState.{stage_number, shows}
 
 -- ---- One call.
 said_alike : (raw : StarState) (a : ℕ) (t : Answer Candidate × State) → said_by (answer_of raw a (searched t)) ≡ numbers_of (searched_says (searched t))
-unfolding said shown
+unfolding said
 said_alike raw a (candidate x, s) = refl
 said_alike raw a (used, s) = refl
 said_alike raw a (over z, s) = refl
@@ -45,7 +46,7 @@ said_alike raw a (refused k, s) = refl
 -- The state given back means the state that the search leaves. A refusal leaves what it received, and so does "allowance used" where the
 -- allowance is 0.
 left_alike : (raw : StarState) (a : ℕ) (t : Answer Candidate × State) → ((k : ℕ) → t.0 ≡ refused k → t.1 ≡ state_of raw) → (a ≡ 0 → t.0 ≡ used → t.1 ≡ state_of raw) → state_of (answer_of raw a (searched t)).state ≡ t.1
-unfolding said shown
+unfolding said
 left_alike raw a (candidate x, s) h z = state_back s
 left_alike raw a (used, s) h z = by (eqb a 0) refl
   where
@@ -73,11 +74,11 @@ module _ (raw : StarState) (g : Call) (z : g.allowance ≡ 0) where
   answered_by t = answer_of raw g.allowance (searched t)
 
   zero_shown : (t : Answer Candidate × State) → NoReadMade (state_of raw) (lent_by (given_by g)) t
-      → ((k : ℕ) × (first_no (given_by g).lent_data (state_of raw) ≡ some k) × ((answered_by t).answer ≡ 3) × ((answered_by t).number ≡ k) × ((answered_by t).state ≡ raw))
+      → ((k : ℕ) × (first_no (given_by g).lent_data (state_of raw) ≡ Some k) × ((answered_by t).answer ≡ 3) × ((answered_by t).number ≡ k) × ((answered_by t).state ≡ raw))
       ⊎ ((s : Status) × (next_of raw g ≡ Ends s) × ((answered_by t).answer ≡ 2) × ((answered_by t).number ≡ status_number s))
       ⊎ ((r : Position) × (next_of raw g ≡ Goes r) × ((answered_by t).answer ≡ 1) × ((answered_by t).state ≡ raw))
-  unfolding said shown lent_of
-  zero_shown t (inl (k, n, e)) = inl (k, n, ap (λ t. (answered_by t).answer) e, ap (λ t. (answered_by t).number) e, ap (λ t. (answered_by t).state) e)
+  unfolding said lent_of
+  zero_shown t (inl (k, n, e)) = inl (k, n, ap (λ t. (answered_by t).answer) e, ap (λ t. (answered_by t).number) e ∙ first_asks (given_by g).lent_data (state_of raw) k n, ap (λ t. (answered_by t).state) e)
   zero_shown t (inr (inl (n, s, e, o))) = inr (inl (s, e, ap (λ t. (answered_by t).answer) o, ap (λ t. (answered_by t).number) o))
   zero_shown t (inr (inr (n, r, e, o))) = inr (inr (r, e, ap (λ t. (answered_by t).answer) o, ap (λ t. (answered_by t).state) o ∙ rw z))
 
@@ -120,15 +121,15 @@ phase_agrees : (run : Run) (m : Machine) (st : State) → Leaves run m st → st
 phase_agrees run m st l = by m.final refl m.taken refl
   where
     by : (o : Option Status) → m.final ≡ o → (n : ℕ) → m.taken ≡ n → stage_number st.phase ≡ phase_on o n
-    by (some s) e n f = ap stage_number (l.ended s e)
-    by none e zero f = ap stage_number (l.unread e f)
-    by none e (suc n) f = ap stage_number (l.onward e (omega arith)).3
+    by (Some s) e n f = ap stage_number (l.ended s e)
+    by None e zero f = ap stage_number (l.unread e f)
+    by None e (suc n) f = ap stage_number (l.onward e (omega arith)).3
 
 -- Phase 1 is that of a machine which has not ended and took at least one read.
-next_on : (o : Option Status) (n : ℕ) → phase_on o n ≡ 1 → (o ≡ none) × (0 < n)
-next_on (some s) n h = absurd (omega (arith, h))
-next_on none zero h = absurd (omega (arith, h))
-next_on none (suc n) h = (refl, omega arith)
+next_on : (o : Option Status) (n : ℕ) → phase_on o n ≡ 1 → (o ≡ None) × (0 < n)
+next_on (Some s) n h = absurd (omega (arith, h))
+next_on None zero h = absurd (omega (arith, h))
+next_on None (suc n) h = (refl, omega arith)
 
 pub listed_through_c : ListedThroughC
 listed_through_c D o raw e gs h =

@@ -7,7 +7,7 @@ use mathlib.Core.Bool.{Bool, true, false, not, ◌&&◌, false≢true}
 use mathlib.Core.Logic.{◌⊎◌, inl, inr}
 use mathlib.Core.List.{List, [], ◌∷◌}
 use lib.ListN.{length, get_or}
-use mathlib.Core.Option.{Option, none, some}
+use Rattle.std.specs.Prelude.{Option, None, Some}
 use lib.Dec.{eqb, leb}
 use lib.Ieee.{Float, le, lt}
 use lib.Ieee.Scale.{finite}
@@ -38,7 +38,7 @@ use Rattle.c_types.specs.Results.{opened_number}
 use Rattle.star_search.specs.Claims.{ZeroPasses, StateBack, CandidateBack, ZeroIsFresh, UnknownSettings, UnknownError, UnknownState, PartAsNumbers}
 
 -- ---- The opening check.
-zero_none : (a b c d : Bool) → let o : Option ℕ = ask a (some 6) (ask b (some 7) (ask c (some 10) (ask d (some 9) none))) in opened_number o ≡ 0 → o ≡ none
+zero_none : (a b c d : Bool) → let o : Option ℕ = ask a (Some 6) (ask b (Some 7) (ask c (Some 10) (ask d (Some 9) None))) in opened_number o ≡ 0 → o ≡ None
 zero_none false b c d h = absurd (omega (arith, h))
 zero_none true false c d h = absurd (omega (arith, h))
 zero_none true true false d h = absurd (omega (arith, h))

@@ -1,7 +1,7 @@
 -- What a host may rely on beside the contracts, written as statements. proofs/ has a proof of each one, under the name given after it.
 -- Definitions only.
 use Rattle.std.specs.Prelude.{◌≡◌, ℕ, ◌<◌, true, false, ◌⊎◌, ◌↔◌, List, length, take, drop, Float}
-use Rattle.std.proofs.Math.Option.{none, some}
+use Rattle.std.specs.Prelude.{None, Some, true, is_ok}
 use Rattle.candidates.specs.declared.entry_tests.Candidate.{Candidate}
 use Rattle.undivided_run.specs.declared.state.State.{State}
 use Rattle.undivided_run.specs.declared.state.Status.{Status}
@@ -17,7 +17,6 @@ use Rattle.search_questions.specs.Questions.{first_no}
 use Rattle.settings.specs.PassLimits.{scale_fits}
 use Rattle.pattern_search.specs.Answers.{searched_says}
 use Rattle.pattern_search.specs.Demand3.{Given, returned}
-use Rattle.complete.specs.declared.completing.Completion.{Completion}
 use Rattle.complete.specs.Completing.{completed_of}
 use Rattle.pattern_catalog.specs.Answers.{Answer}
 use Rattle.pattern_catalog.specs.SlotRead.{section_part}
@@ -34,7 +33,7 @@ use Rattle.c_types.specs.declared.structs.StarState.{StarState}
 
 -- `star_open` answers 0 exactly where the table passes the opening check: `zero_passes`.
 abbrev pub ZeroPasses : Type 0
-ZeroPasses = (slots : ℕ) (words packed : List ℕ) (stars : List Float) → (opened_number (opening slots words packed stars) ≡ 0) ↔ (opening slots words packed stars ≡ none)
+ZeroPasses = (slots : ℕ) (words packed : List ℕ) (stars : List Float) → (opened_number (opening slots words packed stars) ≡ 0) ↔ (opening slots words packed stars ≡ None)
 
 -- A state given to C and taken back is the same state: `state_back`.
 abbrev pub StateBack : Type 0
@@ -53,7 +52,7 @@ next_of raw g = let D = (given_by g).lent_data in resume (first_read (feed D) D.
 -- With 3 and with 1 it gives back the state as received, with its unused numbers: `zero_changes_nothing`.
 abbrev pub ZeroChangesNothing : Type 0
 ZeroChangesNothing = (raw : StarState) (g : Call) → g.allowance ≡ 0
-    → ((k : ℕ) × (first_no (given_by g).lent_data (state_of raw) ≡ some k) × ((answered raw g).answer ≡ 3) × ((answered raw g).number ≡ k) × ((answered raw g).state ≡ raw))
+    → ((k : ℕ) × (first_no (given_by g).lent_data (state_of raw) ≡ Some k) × ((answered raw g).answer ≡ 3) × ((answered raw g).number ≡ k) × ((answered raw g).state ≡ raw))
     ⊎ ((s : Status) × (next_of raw g ≡ Ends s) × ((answered raw g).answer ≡ 2) × ((answered raw g).number ≡ status_number s))
     ⊎ ((r : Position) × (next_of raw g ≡ Goes r) × ((answered raw g).answer ≡ 1) × ((answered raw g).state ≡ raw))
 
@@ -80,7 +79,7 @@ PartAsNumbers = (packed : List ℕ) (a : Answer) → take (part_numbers a).lengt
 -- A candidate that a search gave can be completed with the same frame and stars and any scale above 0 and at most 16: `completable`.
 abbrev pub Completable : Type 0
 Completable = (st : State) (g : Given) (x : Candidate) (scale : Float) → searched_says (returned st g) ≡ candidate x → scale_fits scale ≡ true
-    → (completed_of g.lent_data.frame.centroids g.lent_data.frame.order g.lent_data.frame.passes g.lent_data.stars x scale).answer ≡ Completion.Done
+    → is_ok (completed_of g.lent_data.frame.centroids g.lent_data.frame.order g.lent_data.frame.passes g.lent_data.stars x scale) ≡ true
 
 -- A candidate that `star_search` gave can be completed by `star_complete` in the same way: `completable_through_c`.
 abbrev pub CompletableThroughC : Type 0

@@ -1,7 +1,7 @@
 -- Demand 3 for a host in C: a list of calls of `star_search`, each given the state that the one before gave back, compared with document 01's
 -- calls on the undivided run. Definitions only.
 use Rattle.std.specs.Prelude.{◌≡◌, ℕ, zero, suc, cond, List, [], ◌∷◌, map, eqb, take, drop}
-use Rattle.std.proofs.Math.Option.{Option, none, some}
+use Rattle.std.specs.Prelude.{Option, None, Some}
 use Rattle.candidates.specs.NoCandidate.{no_candidate}
 use Rattle.candidates.specs.declared.entry_tests.Candidate.{Candidate}
 use Rattle.undivided_run.specs.declared.state.Position.{Position}
@@ -59,9 +59,9 @@ found_in (a ∷ rest) = cond (eqb a.answer 0) (a.candidate ∷ found_in rest) (f
 
 -- The phase of document 01's machine that has this final status, if any, and took n reads: 0 for fresh, 1 for at its next read, 2 for ended.
 abbrev pub phase_on : Option Status → ℕ → ℕ
-phase_on (some s) n = 2
-phase_on none zero = 0
-phase_on none (suc n) = 1
+phase_on (Some s) n = 2
+phase_on None zero = 0
+phase_on None (suc n) = 1
 
 -- What a host sees is what document 01's calls on its undivided run give: each answer, after the list the candidates in order, and in the
 -- state given back the reads, the patterns, the phase, the status of an ended run and the numbers of a next read.
@@ -77,7 +77,7 @@ pub record SeenFromC (D : Data) (raw : StarState) (gs : List Call) : Type 0 wher
   -- The phase is that of the machine.
   pub phase : (last_raw raw gs).phase ≡ phase_on (on_run D (map given_by gs)).1.final (on_run D (map given_by gs)).1.taken
   -- Where the machine has ended with a status, the state has the number of that status.
-  pub status : (s : Status) → (on_run D (map given_by gs)).1.final ≡ some s → (last_raw raw gs).status ≡ status_number s
+  pub status : (s : Status) → (on_run D (map given_by gs)).1.final ≡ Some s → (last_raw raw gs).status ≡ status_number s
   -- Where the state is at its next read, its numbers name the read of the run that comes next.
   pub next_position : (last_raw raw gs).phase ≡ 1 → (r : Position) × (rs : List Position) × (drop (last_raw raw gs).reads (run D).reads ≡ r ∷ rs) × (position_of (last_raw raw gs) ≡ r)
   -- The state means the one that the same list of calls of the search itself leaves.

@@ -15,8 +15,9 @@ use c_types::structs::{
     StarAnswer, StarCandidate, StarCompleted, StarPart, StarSettings, StarSlot, StarState,
     StarSwept,
 };
-use opening_check::open_check::Opened;
-use pattern_catalog::slot_read::{Found, Slot};
+use candidates::entry_tests::Candidate;
+use search_feed::SearchConfig;
+use undivided_run::state::State;
 
 // Returns the version of this interface, which is the header's STAR_SEARCH_VERSION, so that a host can compare the two. It is raised
 // whenever a struct, a function or any answer changes.
@@ -34,8 +35,8 @@ pub extern "C" fn star_open(slots: u64, words: &[u64], packed: &[u8], stars: &[f
     ensures { result ≡ opened_number (opening slots words.now packed.now stars.now) }
 {
     match opening_check::open_check::open_check(slots, words, packed, stars) {
-        Opened::Passed => 0,
-        Opened::Refused(n) => n,
+        Ok(()) => 0,
+        Err(question) => u32::from(question),
     }
 }
 
@@ -55,8 +56,8 @@ pub extern "C" fn star_search(
 ) -> StarAnswer
     ensures { result ≡ answered state (record { centroids = centroids.entry.now; order = order.now; settings = settings; passes = passes.now; slots = slots; words = words.now; packed = packed.now; stars = stars.now; allowance = allowance }) }
 {
-    let config = c_types::config::config_from_c(settings);
-    let from = c_types::state::state_from_c(state);
+    let config = SearchConfig::from(settings);
+    let from = State::from(state);
     let said = pattern_search::search(
         centroids, order, config, passes, slots, words, packed, stars, from, allowance,
     );
@@ -68,20 +69,8 @@ pub extern "C" fn star_search(
 pub extern "C" fn star_slot(slots: u64, words: &[u64], packed: &[u8], slot: u64) -> StarSlot
     ensures { result ≡ slot_numbers (slot_read slots words.now packed.now slot) }
 {
-    match pattern_catalog::slot_read::slot_of(slots, words, packed, slot) {
-        Slot::Filled => StarSlot {
-            answer: 0,
-            number: 0,
-        },
-        Slot::Empty => StarSlot {
-            answer: 1,
-            number: 0,
-        },
-        Slot::Refused(n) => StarSlot {
-            answer: 2,
-            number: n,
-        },
-    }
+    let held = pattern_catalog::slot_read::slot_of(slots, words, packed, slot);
+    StarSlot::from(held)
 }
 
 // The part of the packed section that a slot read hands back, the entry's own bytes. It is given as offset and length, since a function for C
@@ -91,15 +80,11 @@ pub extern "C" fn star_entry(slots: u64, words: &[u64], packed: &[u8], slot: u64
     ensures { result ≡ part_numbers (slot_read slots words.now packed.now slot) }
 {
     match pattern_catalog::slot_read::find(slots, words, packed, slot) {
-        Found::At(p) => StarPart {
-            offset: p * 22,
+        Ok(Some(place)) => StarPart {
+            offset: place * 22,
             length: 22,
         },
-        Found::Empty => StarPart {
-            offset: 0,
-            length: 0,
-        },
-        Found::Refused(_) => StarPart {
+        Ok(None) | Err(_) => StarPart {
             offset: 0,
             length: 0,
         },
@@ -118,8 +103,7 @@ pub extern "C" fn star_sweep(
     ensures { (result ≡ swept_numbers (swept_of estimate (option_of error_given error) step (length out.old))) × (out.new ≡ later_of estimate (option_of error_given error) step out.old) }
 {
     let reach = c_types::config::option_of(error_given, error);
-    let swept = fov_sweep::build_fov_sweep(estimate, reach, step, out);
-    c_types::results::sweep_to_c(swept)
+    StarSwept::from(fov_sweep::build_fov_sweep(estimate, reach, step, out))
 }
 
 // Completes a candidate: returns its four image vectors in matched order and its four star vectors.
@@ -134,7 +118,7 @@ pub extern "C" fn star_complete(
 ) -> StarCompleted
     ensures { result ≡ completed_numbers (completed_of centroids.now order.now passes.now stars.now (candidate_from candidate) scale) }
 {
-    let given = c_types::candidate::candidate_from_c(candidate);
+    let given = Candidate::from(candidate);
     let completed = complete::completing::complete(centroids, order, passes, stars, given, scale);
-    c_types::results::completed_to_c(completed)
+    StarCompleted::from(completed)
 }

@@ -1,3 +1,4 @@
+pub mod Kind
 pub mod Lent
 pub mod Words
 pub mod Records

@@ -19,8 +19,11 @@
 --    9 slot      slot u64
 --   10 sweep     estimate f32, error (present, f32), step f32, room
 --   11 complete  pass, four places, four stars, field f32, rebuild mark, scale f32
-use Rattle.std.specs.Prelude.{ℕ, ◌+◌, ◌*◌, ◌-◌, ◌%◌, Bool, cond, ◌&&◌, eqb, leb}
-use Rattle.stream.specs.declared.words.Words.{Words}
+use Rattle.std.specs.Prelude.{ℕ, ◌+◌, ◌*◌, ◌-◌, ◌%◌, Bool, List, cond, ◌&&◌, eqb, leb, slice_index}
+
+-- The first words of a payload, of which there are 13; those that it doesn't have are 0.
+abbrev pub Words : Type 0
+Words = List ℕ
 
 -- The u64 of two words.
 abbrev pub long_of : ℕ → ℕ → ℕ
@@ -57,8 +60,8 @@ frame_size coords places triples = 12 + coords * 4 + places * 4 + triples * 4
 -- The length in bytes of a payload of this kind that begins with the words w.
 unfoldable pub size_of : ℕ → Words → ℕ
 size_of kind w =
-    cond (eqb kind 1) (table_size w.w1 w.w2 w.w3)
-    (cond (eqb kind 2) (frame_size w.w0 w.w1 w.w2)
+    cond (eqb kind 1) (table_size (slice_index w 1) (slice_index w 2) (slice_index w 3))
+    (cond (eqb kind 2) (frame_size (slice_index w 0) (slice_index w 1) (slice_index w 2))
     (words_of kind * 4))
 
 -- Whether the counts a, b and c are at most x, y and z.
@@ -68,6 +71,6 @@ three_fit a b c x y z = leb a x && (leb b y && leb c z)
 -- Whether the kind is known and the arrays have room for the counts in the words.
 unfoldable pub room_for : ℕ → Words → Bool
 room_for kind w =
-    cond (eqb kind 1) (three_fit w.w1 w.w2 w.w3 2560 1500000 200000)
-    (cond (eqb kind 2) (three_fit w.w0 w.w1 w.w2 640 320 900)
+    cond (eqb kind 1) (three_fit (slice_index w 1) (slice_index w 2) (slice_index w 3) 2560 1500000 200000)
+    (cond (eqb kind 2) (three_fit (slice_index w 0) (slice_index w 1) (slice_index w 2) 640 320 900)
     (leb (words_of kind) 13))

@@ -1,13 +1,14 @@
 // The recorded lists: the format of a stream, and how the next record is read from it.
 #![tactic(auto)]
 
+pub mod broken;
 mod from_words;
 mod inputs;
+pub mod kind;
 pub mod lent;
 pub mod next_record;
-mod parts;
 mod reading;
 mod record_effect;
 pub mod records;
-mod room;
+pub mod walk;
 pub mod words;

@@ -34,7 +34,7 @@ pub struct Inputs {
 }
 
 // What a record asks for. `Call` and `Run` hold an allowance and `Slot` a slot number; a sweep and completing a candidate take their numbers
-// from the words of the record. `Nothing` is for records that set something, and `Broken` for one that can't be read.
+// from the words of the record. `Nothing` is for records that set something.
 #[derive(Clone, Copy)]
 pub enum Request {
     Nothing,
@@ -44,7 +44,6 @@ pub enum Request {
     Slot(u64),
     Sweep,
     Complete,
-    Broken,
 }
 
 // The effect of one record: what it asks for, the first words of its payload, and the inputs after it.
@@ -53,11 +52,4 @@ pub struct Record {
     pub request: Request,
     pub words: Words,
     pub inputs: Inputs,
-}
-
-// The state that a record names, or `Unknown` for a phase or status that the format doesn't have.
-#[derive(Clone, Copy)]
-pub enum MaybeState {
-    Is(State),
-    Unknown,
 }

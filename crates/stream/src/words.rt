@@ -1,98 +1,87 @@
 // The first words of a payload: how many a kind has, how long they say the payload is, and whether its arrays have room.
 ghost use Rattle.std.specs.Prelude.{◌≡◌, ◌≤◌};
-ghost use Rattle.stream.specs.Words.{long_of, words_of, table_size, frame_size, size_of, three_fit, room_for};
+ghost use Rattle.stream.specs.Kind.{number_of};
+ghost use Rattle.stream.specs.Words.{long_of, words_of, padding_of, table_size, frame_size, size_of, three_fit, room_for};
 
-// The first words of a payload; words that it doesn't have are 0. They are fields and not an array, since a proof reads a field at a quarter of
-// the cost of an array's element.
-#[derive(Clone, Copy)]
-pub struct Words {
-    pub w0: u32,
-    pub w1: u32,
-    pub w2: u32,
-    pub w3: u32,
-    pub w4: u32,
-    pub w5: u32,
-    pub w6: u32,
-    pub w7: u32,
-    pub w8: u32,
-    pub w9: u32,
-    pub w10: u32,
-    pub w11: u32,
-    pub w12: u32,
-}
+use crate::kind::Kind;
+
+// The first words of a payload; words that it doesn't have are 0.
+pub type Words = [u32; 13];
 
 // Returns the u64 of two words.
 pub fn long_of(low: u32, high: u32) -> u64
     ensures { result ≡ long_of low high }
 {
-    low as u64 + high as u64 * 0x1_0000_0000
+    u64::from(low) + u64::from(high) * 0x1_0000_0000
 }
 
-// Returns how many words a payload has before its arrays; for an unknown kind 14, which is more than any kind has.
-pub fn payload_words(kind: u32) -> usize
-    ensures { (result ≡ words_of kind) × (result ≤ 14) }
+// Returns how many zero bytes pad n bytes to a multiple of 4.
+pub fn padding(n: u32) -> u64
+    ensures { result ≡ padding_of n }
 {
-    match kind {
-        1 => 4,
-        2 => 3,
-        3 => 13,
-        4 => 0,
-        5 => 13,
-        6 => 2,
-        7 => 2,
-        8 => 0,
-        9 => 2,
-        10 => 5,
-        11 => 12,
-        _ => 14,
-    }
+    (4 - u64::from(n) % 4) % 4
 }
 
 // Returns the length in bytes of a table's payload with these counts.
 fn table_size(longs: u32, bytes: u32, floats: u32) -> u64
     ensures { result ≡ table_size longs bytes floats }
 {
-    16 + longs as u64 * 8 + bytes as u64 + (4 - bytes as u64 % 4) % 4 + floats as u64 * 4
+    16 + u64::from(longs) * 8 + u64::from(bytes) + padding(bytes) + u64::from(floats) * 4
 }
 
 // Returns the length in bytes of a frame's payload with these counts.
 fn frame_size(coords: u32, places: u32, triples: u32) -> u64
     ensures { result ≡ frame_size coords places triples }
 {
-    12 + coords as u64 * 4 + places as u64 * 4 + triples as u64 * 4
-}
-
-// Returns the length in bytes of a payload of this kind that begins with the words w.
-pub fn payload_size(kind: u32, w: Words) -> u64
-    ensures { result ≡ size_of kind w }
-{
-    match kind {
-        1 => table_size(w.w1, w.w2, w.w3),
-        2 => frame_size(w.w0, w.w1, w.w2),
-        _ => payload_words(kind) as u64 * 4,
-    }
+    12 + u64::from(coords) * 4 + u64::from(places) * 4 + u64::from(triples) * 4
 }
 
 // Returns whether the counts a, b and c are at most x, y and z.
 fn three_fit(a: u32, b: u32, c: u32, x: u32, y: u32, z: u32) -> bool
     ensures { result ≡ three_fit a b c x y z }
 {
-    if a > x {
-        return false;
-    }
-    if b > y {
-        return false;
-    }
-    c <= z
+    a <= x && b <= y && c <= z
 }
 
-// Returns whether the kind is known and the arrays have room for the counts in the words.
-pub fn has_room(kind: u32, w: Words) -> bool
-    ensures { result ≡ room_for kind w }
-{
-    match kind {
-        1 => three_fit(w.w1, w.w2, w.w3, 2560, 1500000, 200000),
-        2 => three_fit(w.w0, w.w1, w.w2, 640, 320, 900),
-        _ => payload_words(kind) <= 13,
+impl Kind {
+    // Returns how many words a payload has before its arrays; for an unknown kind 14, more than any kind has.
+    #[tactic(auto, unfolding(crate::specs::Words::words_of))]
+    pub fn payload_words(self) -> u32
+        ensures { (result ≡ words_of (number_of self)) × (result ≤ 14) }
+    {
+        match self {
+            Kind::Table => 4,
+            Kind::Frame => 3,
+            Kind::Settings | Kind::State => 13,
+            Kind::Fresh | Kind::Open => 0,
+            Kind::Call | Kind::Run | Kind::Slot => 2,
+            Kind::Sweep => 5,
+            Kind::Complete => 12,
+            Kind::Unknown => 14,
+        }
+    }
+
+    // Returns the length in bytes of a payload that begins with the words w.
+    #[tactic(auto, unfolding(crate::specs::Words::size_of))]
+    pub fn payload_size(self, w: Words) -> u64
+        ensures { result ≡ size_of (number_of self) w }
+    {
+        match self {
+            Kind::Table => table_size(w[1], w[2], w[3]),
+            Kind::Frame => frame_size(w[0], w[1], w[2]),
+            _ => u64::from(self.payload_words()) * 4,
+        }
+    }
+
+    // Returns whether the kind is known and the arrays have room for the counts in the words.
+    #[tactic(auto, unfolding(crate::specs::Words::room_for))]
+    pub fn has_room(self, w: Words) -> bool
+        ensures { result ≡ room_for (number_of self) w }
+    {
+        match self {
+            Kind::Table => three_fit(w[1], w[2], w[3], 2560, 1500000, 200000),
+            Kind::Frame => three_fit(w[0], w[1], w[2], 640, 320, 900),
+            _ => self.payload_words() <= 13,
+        }
     }
 }

@@ -1,11 +1,11 @@
 -- A direction stored into the columns becomes the next row, and the rows before it stay as they are. Assumes nothing.
-use mathlib.Core.Path.{◌≡◌, refl, ap, ap₂, ◌∙◌}
+use mathlib.Core.Path.{◌≡◌, refl, ap₂, ◌∙◌}
 use mathlib.Core.List.{List, [], ◌∷◌, ◌++◌}
 use Prim.Native.Nat.{ℕ, zero, suc, ◌+◌, ◌≤◌, ◌<◌}
 use native.Mathlib.Omega.{arith}
 use native.Mathlib.Numerals.{add-one}
-use lib.ListN.{length, get_or, take, set, length-set}
-use lib.Seq.{get_or-set_same, get_or-set_other, take-suc-set}
+use lib.ListN.{length, get_or, set, length-append}
+use lib.Seq.{get_or-set_same, get_or-set_other}
 use lib.Ieee.{Float, nan}
 use Rattle.thinning.specs.Columns.{row_at, rows_of}
 
@@ -20,53 +20,33 @@ three (a ∷ b ∷ c ∷ d ∷ l) h = absurd (omega arith)
 same_row : {a b c a' b' c' : Float} → a ≡ a' → b ≡ b' → c ≡ c' → ◌≡◌ {A = List Float} (a ∷ b ∷ c ∷ []) (a' ∷ b' ∷ c' ∷ [])
 same_row p q r = cc
 
-module _ (cols : List Float) (n : ℕ) (a b c : Float) (long : length cols ≡ 192) (few : n < 64) where
-  abbrev stored : List Float
-  stored = set (set (set cols n a) (n + 64) b) (n + 128) c
-
-  pub stored_long : length stored ≡ 192
-  stored_long = length-set (set (set cols n a) (n + 64) b) (n + 128) c ∙ length-set (set cols n a) (n + 64) b ∙ length-set cols n a ∙ long
-
-  elsewhere : (j : ℕ) → ((j ≡ n) → ⊥) → ((j ≡ n + 64) → ⊥) → ((j ≡ n + 128) → ⊥) → get_or stored j nan ≡ get_or cols j nan
-  elsewhere j p q r =
-      get_or-set_other (set (set cols n a) (n + 64) b) (n + 128) j c nan r
-      ∙ get_or-set_other (set cols n a) (n + 64) j b nan q
-      ∙ get_or-set_other cols n j a nan p
-
-  before : (j : ℕ) → j < n → row_at stored j ≡ row_at cols j
+module _ (x y z : List Float) (n : ℕ) (a b c : Float) where
+  before : (j : ℕ) → j < n → row_at (set x n a) (set y n b) (set z n c) j ≡ row_at x y z j
   unfolding row_at
   before j h =
-      same_row
-      (elsewhere j (λ e. omega arith) (λ e. omega arith) (λ e. omega arith))
-      (elsewhere (j + 64) (λ e. omega arith) (λ e. omega arith) (λ e. omega arith))
-      (elsewhere (j + 128) (λ e. omega arith) (λ e. omega arith) (λ e. omega arith))
+      let d : j ≡ n → ⊥ = λ e. omega arith in
+      same_row (get_or-set_other x n j a nan d) (get_or-set_other y n j b nan d) (get_or-set_other z n j c nan d)
 
-  rows_before : (k : ℕ) → k ≤ n → rows_of stored k ≡ rows_of cols k
+  rows_before : (k : ℕ) → k ≤ n → rows_of (set x n a) (set y n b) (set z n c) k ≡ rows_of x y z k
   unfolding rows_of
   rows_before zero h = refl
   rows_before (suc k) h = ap₂ (λ (l : List (List Float)) (w : List Float). l ++ (w ∷ [])) (rows_before k (omega arith)) (before k (omega arith))
 
-  here : row_at stored n ≡ a ∷ b ∷ c ∷ []
+  here : n < length x → n < length y → n < length z → row_at (set x n a) (set y n b) (set z n c) n ≡ a ∷ b ∷ c ∷ []
   unfolding row_at
-  here =
-      same_row
-      (get_or-set_other (set (set cols n a) (n + 64) b) (n + 128) n c nan (λ e. omega arith)
-      ∙ get_or-set_other (set cols n a) (n + 64) n b nan (λ e. omega arith)
-      ∙ get_or-set_same cols n a nan (omega arith))
-      (get_or-set_other (set (set cols n a) (n + 64) b) (n + 128) (n + 64) c nan (λ e. omega arith)
-      ∙ get_or-set_same (set cols n a) (n + 64) b nan (omega (arith, length-set cols n a)))
-      (get_or-set_same (set (set cols n a) (n + 64) b) (n + 128) c nan (omega (arith, length-set (set cols n a) (n + 64) b, length-set cols n a)))
+  here p q r = same_row (get_or-set_same x n a nan p) (get_or-set_same y n b nan q) (get_or-set_same z n c nan r)
 
-  pub row_stored : rows_of stored (suc n) ≡ rows_of cols n ++ ((a ∷ b ∷ c ∷ []) ∷ [])
-  unfolding rows_of
-  row_stored = ap₂ (λ (l : List (List Float)) (w : List Float). l ++ (w ∷ [])) (rows_before n (omega arith)) here
+pub vector_stored : (x y z : List Float) (n : ℕ) (v : List Float) → length v ≡ 3 → n < length x → n < length y → n < length z
+    → rows_of (set x n (get_or v 0 nan)) (set y n (get_or v 1 nan)) (set z n (get_or v 2 nan)) (n + 1) ≡ rows_of x y z n ++ (v ∷ [])
+unfolding rows_of
+vector_stored x y z n v h p q r =
+    rw add-one
+    (ap₂ (λ (l : List (List Float)) (w : List Float). l ++ (w ∷ []))
+    (rows_before x y z n (get_or v 0 nan) (get_or v 1 nan) (get_or v 2 nan) n (omega arith))
+    (here x y z n (get_or v 0 nan) (get_or v 1 nan) (get_or v 2 nan) p q r ∙ three v h))
 
-pub vector_stored : (cols : List Float) (n : ℕ) (v : List Float) → length v ≡ 3 → length cols ≡ 192 → n < 64
-    → rows_of (set (set (set cols n (get_or v 0 nan)) (n + 64) (get_or v 1 nan)) (n + 128) (get_or v 2 nan)) (suc n) ≡ rows_of cols n ++ (v ∷ [])
-vector_stored cols n v h long few =
-    row_stored cols n (get_or v 0 nan) (get_or v 1 nan) (get_or v 2 nan) long few ∙ ap (λ (w : List Float). rows_of cols n ++ (w ∷ [])) (three v h)
-
--- Where the rows are the first m directions, they are the first m + 1 once a row and a direction more are stored.
-pub rows_grow : (cols cols' : List Float) (dirs : List (List Float)) (v : List Float) (m : ℕ) → m < length dirs
-    → rows_of cols' (suc m) ≡ rows_of cols m ++ (v ∷ []) → rows_of cols m ≡ take m dirs → rows_of cols' (m + 1) ≡ take (m + 1) (set dirs m v)
-rows_grow cols cols' dirs v m h g e = rw (add-one, take-suc-set dirs m v h, ← e) g
+-- There are n directions in the first n rows.
+pub rows_count : (x y z : List Float) (n : ℕ) → length (rows_of x y z n) ≡ n
+unfolding rows_of
+rows_count x y z zero = refl
+rows_count x y z (suc n) = omega (arith, rows_count x y z n, length-append (rows_of x y z n) (row_at x y z n ∷ []))

@@ -2,6 +2,7 @@
 use mathlib.Core.Path.{◌≡◌, refl, sym, ap, ap₂, ◌∙◌}
 use Prim.Native.Nat.{ℕ, zero, suc, ◌+◌, ◌-◌, ◌≤◌, ◌<◌}
 use native.Mathlib.Omega.{arith}
+use native.Mathlib.Numerals.{add-one}
 use mathlib.Core.Bool.{true, false, cond}
 use mathlib.Core.List.{List, [], ◌∷◌, ◌++◌, map, append_assoc, append-nil}
 use native.Mathlib.Nat.{zero-add, suc-add}
@@ -96,3 +97,31 @@ module _ (c : Float) (spot : ℕ → List Float) where
             places_long = h.places_long;
             dirs_long = h.dirs_long;
           }
+
+-- ---- What the loop keeps: the directions in the columns are those of the kept places.
+module _ (c : Float) (spot : ℕ → List Float) (most : ℕ) where
+  pub record Held (i : ℕ) (places : List ℕ) (dirs cols : List (List Float)) : Type 0 where
+    pub thinned : Thinned c spot most i (length cols) places dirs
+    pub cols_are : cols ≡ take (length cols) dirs
+
+  pub held_none : (places : List ℕ) (dirs cols : List (List Float)) → length places ≡ 64 → length dirs ≡ 64 → cols ≡ [] → Held 0 places dirs cols
+  held_none places dirs cols p d e = rw e (record { thinned = thin_none c spot most places dirs p d; cols_are = refl })
+
+  module _ (i : ℕ) (places places' : List ℕ) (dirs dirs' cols cols' : List (List Float)) (h : Held i places dirs cols) where
+    pub held_skip : too_close c (spot i) cols ≡ true → places' ≡ places → dirs' ≡ dirs → cols' ≡ cols → Held (i + 1) places' dirs' cols'
+    held_skip k p q r =
+        rw (p, q, r, add-one)
+        (record {
+          thinned = thin_skip c spot most i (length cols) places dirs h.thinned (ap (too_close c (spot i)) (sym h.cols_are) ∙ k);
+          cols_are = h.cols_are;
+        })
+
+    pub held_keep : (m : ℕ) (v : List Float) → m ≡ length cols → v ≡ spot i → too_close c (spot i) cols ≡ false → m < most → most ≤ 64
+        → places' ≡ set places m i → dirs' ≡ set dirs m v → cols' ≡ cols ++ (v ∷ []) → Held (i + 1) places' dirs' cols'
+    held_keep m v n e k l f p q r =
+        let long : length (cols ++ (v ∷ [])) ≡ suc (length cols) = omega (arith, length-append cols (v ∷ [])) in
+        rw (p, q, r, n, add-one)
+        (record {
+          thinned = rw long (thin_keep c spot most i (length cols) places dirs h.thinned (ap (too_close c (spot i)) (sym h.cols_are) ∙ k) (omega arith) f v e);
+          cols_are = rw (long, take-suc-set dirs (length cols) v (omega (arith, h.thinned.dirs_long)), ← h.cols_are) refl;
+        })

@@ -1,6 +1,7 @@
 -- The loop of `too_close`, whether or not it finds a direction that is too close. Assumes nothing.
 use mathlib.Core.Path.{◌≡◌, refl}
-use Prim.Native.Nat.{ℕ, suc}
+use Prim.Native.Nat.{ℕ, ◌+◌}
+use native.Mathlib.Numerals.{add-one}
 use mathlib.Core.Bool.{Bool, true, false, ◌||◌}
 use mathlib.Core.List.{List, [], ◌∷◌, ◌++◌}
 use lib.Ieee.{Float, lt}
@@ -25,15 +26,15 @@ module _ (c : Float) (v : List Float) where
   or_false true = refl
   or_false false = refl
 
-  module _ (cols : List Float) where
-    pub near_none : false ≡ too_close c v (rows_of cols 0)
+  module _ (x y z : List Float) where
+    pub near_none : false ≡ too_close c v (rows_of x y z 0)
     unfolding too_close rows_of
     near_none = refl
 
-    pub near_yes : (j : ℕ) → lt c (dot v (row_at cols j)) ≡ true → true ≡ too_close c v (rows_of cols (suc j))
+    pub near_yes : (j : ℕ) → lt c (dot v (row_at x y z j)) ≡ true → true ≡ too_close c v (rows_of x y z (j + 1))
     unfolding too_close rows_of
-    near_yes j k = rw (too_close_append, k, or_true)
+    near_yes j k = rw (add-one, too_close_append, k, or_true)
 
-    pub near_no : (j : ℕ) → lt c (dot v (row_at cols j)) ≡ false → too_close c v (rows_of cols j) ≡ too_close c v (rows_of cols (suc j))
+    pub near_no : (j : ℕ) → lt c (dot v (row_at x y z j)) ≡ false → too_close c v (rows_of x y z j) ≡ too_close c v (rows_of x y z (j + 1))
     unfolding too_close rows_of
-    near_no j k = rw (too_close_append, k, or_false)
+    near_no j k = rw (add-one, too_close_append, k, or_false)

@@ -10,8 +10,8 @@ use lib.ListN.{length, take, length-append, length-take, length-map}
 use Rattle.combinations.specs.declared.Combination.{Combination}
 use Rattle.combinations.specs.Combinations.{combination_list}
 use Rattle.combinations.specs.Lists.{each, span, upto}
-use Rattle.undivided_run.specs.declared.state.Cap.{Cap}
-use Rattle.undivided_run.specs.declared.state.Cap.TheVariants.{Absent as absent, Given as given}
+use Rattle.undivided_run.specs.Undivided.{Cap}
+use Rattle.std.specs.Prelude.{None as absent, Some as given}
 use Rattle.undivided_run.specs.declared.state.Position.{Position as Read}
 use Rattle.undivided_run.specs.Undivided.{Feed, is_zero, starts, filled, chain, reads_of, undivided}
 use Rattle.undivided_run.specs.Calls.{tried}

@@ -6,11 +6,11 @@ use native.Mathlib.Omega.{arith}
 use native.Mathlib.Numerals.{add-one}
 use mathlib.Core.List.{List, [], ◌∷◌}
 use mathlib.Core.Bool.{Bool, true, false, cond}
-use mathlib.Core.Option.{Option, none, some}
+use Rattle.std.specs.Prelude.{Option, None, Some}
 use lib.ListN.{length}
 use Rattle.undivided_run.specs.declared.state.Status.{Status}
 use Rattle.undivided_run.specs.declared.state.Status.TheVariants.{NoMatch}
-use Rattle.undivided_run.specs.declared.state.Cap.{Cap}
+use Rattle.undivided_run.specs.Undivided.{Cap}
 use Rattle.undivided_run.specs.declared.state.Position.{Position as Read}
 use Rattle.undivided_run.specs.declared.state.Next.{Next}
 use Rattle.undivided_run.specs.declared.state.Next.TheVariants.{Goes as goes, Ends as ends}
@@ -121,11 +121,11 @@ module _ {E C : Type 0} (F : Feed E C) (cap : Cap) (st : State) (a : ℕ) (w : C
     pub iterate_refused : valid_at F r ≡ false → rest ≡ (refused 9, st)
     iterate_refused s = go_read ∙ rw s
 
-    pub iterate_hit : (f : C) → valid_at F r ≡ true → gives F r ≡ some f → rest ≡ (candidate f, record { phase = phase_of then.next; patterns = then.patterns; reads = then.reads })
+    pub iterate_hit : (f : C) → valid_at F r ≡ true → gives F r ≡ Some f → rest ≡ (candidate f, record { phase = phase_of then.next; patterns = then.patterns; reads = then.reads })
     unfolding cases
     iterate_hit f s g = go_read ∙ rw (s, g)
 
-    pub iterate_passed : valid_at F r ≡ true → gives F r ≡ none → continuing F cap st (a - 1) then ≡ rest
+    pub iterate_passed : valid_at F r ≡ true → gives F r ≡ None → continuing F cap st (a - 1) then ≡ rest
     unfolding cases
     iterate_passed s g = sym (go_read ∙ rw (s, g))
 
@@ -143,13 +143,13 @@ module _ {E C : Type 0} (F : Feed E C) (cap : Cap) (st : State) where
 -- ---- The read that gave a candidate.
 module _ {E C : Type 0} (F : Feed E C) (cap : Cap) (keyed : Keyed F) (x : C) where
   abbrev pub GivenAt : Type 0
-  GivenAt = (r : Read) × ReadExists F r × (valid_at F r ≡ true) × (gives F r ≡ some x)
+  GivenAt = (r : Read) × ReadExists F r × (valid_at F r ≡ true) × (gives F r ≡ Some x)
 
   given_read : (r : Read) (st k : State) (t : Answer C × State) → ReadExists F r → (b : Bool) → valid_at F r ≡ b → (o : Option C) → gives F r ≡ o → (cond b (cases o t (λ y. (candidate y, k))) (refused 9, st)).0 ≡ candidate x → (t.0 ≡ candidate x → GivenAt) → GivenAt
   unfolding cases
   given_read r st k t h false be o oe e ih = absurd (let z : ◌≡◌ {A = ℕ} 0 1 = cc in omega arith)
-  given_read r st k t h true be none oe e ih = ih e
-  given_read r st k t h true be (some y) oe e ih = let z : y ≡ x = cc in (r, h, be, oe ∙ ap some z)
+  given_read r st k t h true be None oe e ih = ih e
+  given_read r st k t h true be (Some y) oe e ih = let z : y ≡ x = cc in (r, h, be, oe ∙ ap Some z)
 
   go_given : (a : ℕ) (st : State) (w : Next) (n m : ℕ) → NextExists F w → (go (gives F) (valid_at F) (next_read F cap) st a w n m).0 ≡ candidate x → GivenAt
   unfolding go

@@ -14,8 +14,8 @@ use Rattle.combinations.specs.Combinations.{combination_list}
 use Rattle.combinations.specs.Lists.{each}
 use Rattle.undivided_run.specs.declared.state.Status.{Status}
 use Rattle.undivided_run.specs.declared.state.Status.TheVariants.{TooFew, NoMatch, Timeout}
-use Rattle.undivided_run.specs.declared.state.Cap.{Cap}
-use Rattle.undivided_run.specs.declared.state.Cap.TheVariants.{Absent as absent, Given as given}
+use Rattle.undivided_run.specs.Undivided.{Cap}
+use Rattle.std.specs.Prelude.{None as absent, Some as given}
 use Rattle.undivided_run.specs.declared.state.Position.{Position as Read}
 use Rattle.undivided_run.specs.Undivided.{Run, Feed, reached, is_zero, ended, ◌before◌, reads_of, checked, combinations, passes_from, undivided, gives}
 use Rattle.undivided_run.specs.Calls.{candidates}

@@ -10,8 +10,8 @@ use Rattle.combinations.specs.Combinations.{Rising, combination_list}
 use Rattle.combinations.specs.Lists.{All}
 use Rattle.combinations.proofs.Lists.{all_append, all_take}
 use Rattle.combinations.proofs.EachCombination.{combinations_rise}
-use Rattle.undivided_run.specs.declared.state.Cap.{Cap}
-use Rattle.undivided_run.specs.declared.state.Cap.TheVariants.{Absent as absent, Given as given}
+use Rattle.undivided_run.specs.Undivided.{Cap}
+use Rattle.std.specs.Prelude.{None as absent, Some as given}
 use Rattle.undivided_run.specs.Undivided.{Feed, is_zero}
 use Rattle.undivided_run.specs.PositionExists.{CombinationExists}
 use Rattle.undivided_run.specs.Tried.{capped, combinations_from, all_combinations}

@@ -5,10 +5,10 @@ use native.Mathlib.Omega.{arith}
 use mathlib.Core.List.{List, [], ◌∷◌}
 use mathlib.Core.Logic.{inl, inr}
 use mathlib.Core.Bool.{Bool, true, false, cond}
-use mathlib.Core.Option.{Option, none, some}
+use Rattle.std.specs.Prelude.{Option, None, Some}
 use lib.ListN.{take, drop, length, length-drop}
 use Rattle.undivided_run.specs.declared.state.Status.{Status}
-use Rattle.undivided_run.specs.declared.state.Cap.{Cap}
+use Rattle.undivided_run.specs.Undivided.{Cap}
 use Rattle.undivided_run.specs.declared.state.Position.{Position as Read}
 use Rattle.undivided_run.specs.declared.state.Next.{Next}
 use Rattle.undivided_run.specs.declared.state.Next.TheVariants.{Goes as goes, Ends as ends}
@@ -52,8 +52,8 @@ module _ {C : Type 0} (g : Read → Option C) where
   fed_serve s (r ∷ rs) (suc a) b = by (g r) (serve g s rs a) (fed_serve s rs a b)
     where
       by : (o : Option C) (u : Answer C × ℕ) → fed_by u.0 b ≡ allowed b → let v : Answer C × ℕ = cases o (u.0, suc u.1) (λ x. (candidate x, 1)) in fed_by v.0 b ≡ allowed b
-      by none u h = h
-      by (some x) u h = refl
+      by None u h = h
+      by (Some x) u h = refl
 
 -- A refused call hands back the state received, whatever it was lent.
 module _ {C : Type 0} (g : Read → Option C) (valid : Read → Bool) (next : Read → ℕ → Next) where
@@ -63,8 +63,8 @@ module _ {C : Type 0} (g : Read → Option C) (valid : Read → Bool) (next : Re
   fed_read : (b : Bool) (o : Option C) (st st' : State) (t : Answer C × State) (z : Bool) (f : ℕ) → fed_by t.0 f ≡ cond z (refusal 9) (allowed f) → fed_by (cond b (cases o t (λ x. (candidate x, st'))) (refused 9, st)).0 f ≡ cond (cond b (cases o z (λ x. false)) true) (refusal 9) (allowed f)
   unfolding cases fed_by
   fed_read false o st st' t z f h = refl
-  fed_read true none st st' t z f h = h
-  fed_read true (some x) st st' t z f h = refl
+  fed_read true None st st' t z f h = h
+  fed_read true (Some x) st st' t z f h = refl
 
   go_fed : (a : ℕ) (st : State) (w : Next) (n m f : ℕ) → fed_by (go g valid next st a w n m).0 f ≡ cond (nine g valid next a w n) (refusal 9) (allowed f)
   unfolding go nine fed_by
@@ -90,14 +90,14 @@ module _ {C : Type 0} (g : Read → Option C) (valid : Read → Bool) (next : Re
   no_nine ok (suc a) (goes r) n = rw (ok r) (by (g r) (no_nine ok a _ _))
     where
       by : (o : Option C) {z : Bool} → z ≡ false → cases o z (λ x. false) ≡ false
-      by none h = h
-      by (some x) h = refl
+      by None h = h
+      by (Some x) h = refl
 
   keeps_read : (b : Bool) (o : Option C) (st st' : State) (t : Answer C × State) → Keeps st t → Keeps st (cond b (cases o t (λ x. (candidate x, st'))) (refused 9, st))
   unfolding cases
   keeps_read false o st st' t h k e = refl
-  keeps_read true none st st' t h k e = h k e
-  keeps_read true (some x) st st' t h k e = cc
+  keeps_read true None st st' t h k e = h k e
+  keeps_read true (Some x) st st' t h k e = cc
 
   go_keeps : (a : ℕ) (st : State) (w : Next) (n m : ℕ) → Keeps st (go g valid next st a w n m)
   unfolding go
@@ -128,8 +128,8 @@ module _ {C : Type 0} (g : Read → Option C) (valid : Read → Bool) (next : Re
   new_read : (b : Bool) (o : Option C) (st st' : State) (t : Answer C × State) → New st → New st' → New t.1 → New (cond b (cases o t (λ x. (candidate x, st'))) (refused 9, st)).1
   unfolding cases
   new_read false o st st' t p q h = p
-  new_read true none st st' t p q h = h
-  new_read true (some x) st st' t p q h = q
+  new_read true None st st' t p q h = h
+  new_read true (Some x) st st' t p q h = q
 
   go_new : (a : ℕ) (st : State) (w : Next) (n m : ℕ) → New st → New (go g valid next st a w n m).1
   unfolding go phase_of
@@ -152,8 +152,8 @@ unfolding search_call search cases
 search_new st x h = by (x.asked st)
   where
     by : (o : Option ℕ) → New (cases o (search x.feed x.cap st x.allowance) λ k. (refused k, st)).1
-    by none = call_new (gives x.feed) (valid_at x.feed) (next_read x.feed x.cap) (first_read x.feed x.cap) st x.allowance h
-    by (some j) = h
+    by None = call_new (gives x.feed) (valid_at x.feed) (next_read x.feed x.cap) (first_read x.feed x.cap) st x.allowance h
+    by (Some j) = h
 
 calls_new : {E C : Type 0} (st : State) (xs : List (Lent E C)) → New st → New (calls search_call st xs).1
 unfolding calls
@@ -168,8 +168,8 @@ module _ {C : Type 0} (g : Read → Option C) (valid : Read → Bool) (next : Re
   read_read : (b : Bool) (o : Option C) (st st' : State) (t : Answer C × State) → ReadBefore st → ReadBefore st' → ReadBefore t.1 → ReadBefore (cond b (cases o t (λ x. (candidate x, st'))) (refused 9, st)).1
   unfolding cases
   read_read false o st st' t p q h = p
-  read_read true none st st' t p q h = h
-  read_read true (some x) st st' t p q h = q
+  read_read true None st st' t p q h = h
+  read_read true (Some x) st st' t p q h = q
 
   go_read : (a : ℕ) (st : State) (w : Next) (n m : ℕ) → ReadBefore st → (a ≡ 0 → 0 < m) → ReadBefore (go g valid next st a w n m).1
   unfolding go
@@ -192,8 +192,8 @@ unfolding search_call search cases
 search_read st x h = by (x.asked st)
   where
     by : (o : Option ℕ) → ReadBefore (cases o (search x.feed x.cap st x.allowance) λ k. (refused k, st)).1
-    by none = call_read (gives x.feed) (valid_at x.feed) (next_read x.feed x.cap) (first_read x.feed x.cap) st x.allowance h
-    by (some j) = h
+    by None = call_read (gives x.feed) (valid_at x.feed) (next_read x.feed x.cap) (first_read x.feed x.cap) st x.allowance h
+    by (Some j) = h
 
 calls_read : {E C : Type 0} (st : State) (xs : List (Lent E C)) → ReadBefore st → ReadBefore (calls search_call st xs).1
 unfolding calls
@@ -210,30 +210,30 @@ unfolding search_call search cases
 refused_keeps st x k e = by (x.asked st) e
   where
     by : (o : Option ℕ) → (cases o (search x.feed x.cap st x.allowance) λ k. (refused k, st)).0 ≡ refused k → (cases o (search x.feed x.cap st x.allowance) λ k. (refused k, st)).1 ≡ st
-    by none h = call_keeps _ _ _ _ st x.allowance k h
-    by (some j) h = refl
+    by None h = call_keeps _ _ _ _ st x.allowance k h
+    by (Some j) h = refl
 
 -- The answer of a call is a refusal with exactly the number that the questions refuse it under.
 fed_right : {E C : Type 0} (st : State) (x : Lent E C) → fed_by (search_call st x).0 x.allowance ≡ fed_for (refusal_of st x) x.allowance
 unfolding search_call search refusal_of question9_refuses cases fed_by fed_for
 fed_right st x = by (x.asked st)
   where
-    pick : (b : Bool) → cond b (refusal 9) (allowed x.allowance) ≡ fed_for (cond b (some 9) none) x.allowance
+    pick : (b : Bool) → cond b (refusal 9) (allowed x.allowance) ≡ fed_for (cond b (Some 9) None) x.allowance
     pick true = refl
     pick false = refl
 
-    by : (o : Option ℕ) → fed_by (cases o (search x.feed x.cap st x.allowance) λ k. (refused k, st)).0 x.allowance ≡ fed_for (cases o (cond (question9_refuses st x) (some 9) none) λ k. some k) x.allowance
-    by none = call_fed (gives x.feed) (valid_at x.feed) (next_read x.feed x.cap) (first_read x.feed x.cap) st x.allowance x.allowance ∙ pick (question9_refuses st x)
-    by (some k) = refl
+    by : (o : Option ℕ) → fed_by (cases o (search x.feed x.cap st x.allowance) λ k. (refused k, st)).0 x.allowance ≡ fed_for (cases o (cond (question9_refuses st x) (Some 9) None) λ k. Some k) x.allowance
+    by None = call_fed (gives x.feed) (valid_at x.feed) (next_read x.feed x.cap) (first_read x.feed x.cap) st x.allowance x.allowance ∙ pick (question9_refuses st x)
+    by (Some k) = refl
 
 -- A call whose answer is no refusal is refused by no question.
-accepted_none : {C : Type 0} (w : Answer C) (o : Option ℕ) (a : ℕ) → Accepted w → fed_by w a ≡ fed_for o a → o ≡ none
+accepted_none : {C : Type 0} (w : Answer C) (o : Option ℕ) (a : ℕ) → Accepted w → fed_by w a ≡ fed_for o a → o ≡ None
 unfolding fed_by fed_for
-accepted_none w none a p e = refl
-accepted_none (refused j) (some k) a p e = absurd p
-accepted_none (candidate x) (some k) a p e = cc
-accepted_none used (some k) a p e = cc
-accepted_none (over s) (some k) a p e = cc
+accepted_none w None a p e = refl
+accepted_none (refused j) (Some k) a p e = absurd p
+accepted_none (candidate x) (Some k) a p e = cc
+accepted_none used (Some k) a p e = cc
+accepted_none (over s) (Some k) a p e = cc
 
 module _ {E C : Type 0} (F : Feed E C) (cap : Cap) where
   module _ (opened : Opened F) where
@@ -242,7 +242,7 @@ module _ {E C : Type 0} (F : Feed E C) (cap : Cap) where
     ok r = opened _
 
     -- Question 9 never refuses a call that is given what the run is fed.
-    pub never_nine : (st : State) (x : Lent E C) → x.feed ≡ F → x.asked st ≡ none → refusal_of st x ≡ none
+    pub never_nine : (st : State) (x : Lent E C) → x.feed ≡ F → x.asked st ≡ None → refusal_of st x ≡ None
     unfolding refusal_of question9_refuses cases valid_at
     never_nine st x e z = rw (z, no_nine (gives x.feed) (valid_at x.feed) (next_read x.feed x.cap) (λ r. rw e (opened _)) x.allowance (resume (first_read x.feed x.cap) st.phase) st.patterns)
 
@@ -275,8 +275,8 @@ module _ {E C : Type 0} (F : Feed E C) (cap : Cap) where
     same_agrees st mc x e f h = by (x.asked st)
       where
         by : (o : Option ℕ) → let t : Answer C × State = cases o (search x.feed x.cap st x.allowance) (λ k. (refused k, st)) in Agree t (machine (gives F) run mc (fed_by t.0 x.allowance))
-        by none = rw (e, f) (search_agrees st mc x.allowance h)
-        by (some k) = refusal_agrees st st mc (refused k) k x.allowance refl refl h
+        by None = rw (e, f) (search_agrees st mc x.allowance h)
+        by (Some k) = refusal_agrees st st mc (refused k) k x.allowance refl refl h
 
     call_agrees : (st : State) (mc : Machine) (x : Lent E C) → FedAlike F cap st x → Like st mc → let t = search_call st x in Agree t (machine (gives F) run mc (fed_by t.0 x.allowance))
     call_agrees st mc x fair h = by (search_call st x).0 refl
@@ -318,7 +318,7 @@ module _ {E C : Type 0} (F : Feed E C) (cap : Cap) where
       }
 
   module _ (opened : Opened F) where
-    not_both : {A : Type 0} (x : A) (o : Option A) → none ≡ o → o ≡ some x → ⊥
+    not_both : {A : Type 0} (x : A) (o : Option A) → None ≡ o → o ≡ Some x → ⊥
     not_both x o p q = let z : ◌≡◌ {A = ℕ} 0 1 = cc in omega arith
 
     head_at : (q : Read) (n : ℕ) (rs : List Read) (s : Status) → Traverses (next_read F cap) (goes q) n rs s → (r : Read) × (later : List Read) × (rs ≡ r ∷ later) × (q ≡ r)
@@ -361,7 +361,7 @@ module _ {E C : Type 0} (F : Feed E C) (cap : Cap) where
     -- Each combination that exists has a key. This is known once a call was not refused, since questions 1 to 5 make it so.
     abbrev pub KeyedList : State → List (Lent E C) → Type 0
     KeyedList st [] = Unit {0}
-    KeyedList st (x ∷ xs) = (refusal_of st x ≡ none → Keyed F) × KeyedList (search_call st x).1 xs
+    KeyedList st (x ∷ xs) = (refusal_of st x ≡ None → Keyed F) × KeyedList (search_call st x).1 xs
 
     start_new : New start
     unfolding start
@@ -375,7 +375,7 @@ module _ {E C : Type 0} (F : Feed E C) (cap : Cap) where
     start_like keyed = start_alike (gives F) (valid_at F) (ok opened) (first_read F cap) (next_read F cap) (undivided F cap) (traverses_undivided F cap keyed)
 
     -- A first call that is refused leaves the state as it was.
-    refused_first : (x : Lent E C) (k : ℕ) → refusal_of start x ≡ some k → ((search_call start x).0 ≡ refused k) × ((search_call start x).1 ≡ start)
+    refused_first : (x : Lent E C) (k : ℕ) → refusal_of start x ≡ Some k → ((search_call start x).0 ≡ refused k) × ((search_call start x).1 ≡ start)
     unfolding fed_for fed_by
     refused_first x k e = by (search_call start x).0 refl (fed_right start x ∙ ap (λ o. fed_for o x.allowance) e)
       where
@@ -388,13 +388,13 @@ module _ {E C : Type 0} (F : Feed E C) (cap : Cap) where
     abbrev Listed : State → Machine → List (Lent E C) → Type 0
     Listed st mc xs = let t = calls search_call st xs in let u = calls (machine (gives F) (undivided F cap)) mc (feeds st xs) in (t.0 ≡ u.0) × Left t.1 u.1
 
-    refused_listed : (x : Lent E C) (xs : List (Lent E C)) (k : ℕ) → refusal_of start x ≡ some k → Listed (search_call start x).1 fresh xs → Listed start fresh (x ∷ xs)
+    refused_listed : (x : Lent E C) (xs : List (Lent E C)) (k : ℕ) → refusal_of start x ≡ Some k → Listed (search_call start x).1 fresh xs → Listed start fresh (x ∷ xs)
     unfolding calls feeds fed_for machine
     refused_listed x xs k e h = rw e (ap₂ ◌∷◌ (refused_first x k e).0 h.0, h.1)
 
     first_call : (x : Lent E C) (xs : List (Lent E C)) → FedAlikeList F cap start (x ∷ xs) → KeyedList start (x ∷ xs) → (FedAlikeList F cap start xs → KeyedList start xs → Listed start fresh xs) → (o : Option ℕ) → refusal_of start x ≡ o → Listed start fresh (x ∷ xs)
-    first_call x xs fair keyed ih none e = listed_from start fresh (x ∷ xs) fair (start_like (keyed.0 e)) start_new start_read
-    first_call x xs fair keyed ih (some k) e =
+    first_call x xs fair keyed ih None e = listed_from start fresh (x ∷ xs) fair (start_like (keyed.0 e)) start_new start_read
+    first_call x xs fair keyed ih (Some k) e =
         let s = (refused_first x k e).1 in
         refused_listed x xs k e (rw s (ih (rw s at fair.1) (rw s at keyed.1)))
 
@@ -417,7 +417,7 @@ module _ {E C : Type 0} (F : Feed E C) (cap : Cap) where
         }
 
     -- ---- After such a list, a call not refused and allowed a read takes a read of the run, unless none is left.
-    moves_on : (st : State) (mc : Machine) (x : Lent E C) → FedAlike F cap st x → Like opened st mc → refusal_of st x ≡ none → 0 < x.allowance → MovesOn F cap st x
+    moves_on : (st : State) (mc : Machine) (x : Lent E C) → FedAlike F cap st x → Like opened st mc → refusal_of st x ≡ None → 0 < x.allowance → MovesOn F cap st x
     unfolding fed_for
     moves_on st mc x fair h o p = by (drop mc.taken (undivided F cap).reads) refl
       where
@@ -433,7 +433,7 @@ module _ {E C : Type 0} (F : Feed E C) (cap : Cap) where
             let z : x.allowance ≡ suc (x.allowance - 1) = omega arith in
             inl (omega (arith, h.reads, fed.1.reads, ap (λ a. (machine (gives F) (undivided F cap) mc (allowed a)).1.taken) z, progress (gives F) (undivided F cap) mc (x.allowance - 1) (some_left r rs e)))
 
-    pub moves_after : Keyed F → (xs : List (Lent E C)) → FedAlikeList F cap start xs → (x : Lent E C) → let st = (calls search_call start xs).1 in FedAlike F cap st x → refusal_of st x ≡ none → 0 < x.allowance → MovesOn F cap st x
+    pub moves_after : Keyed F → (xs : List (Lent E C)) → FedAlikeList F cap start xs → (x : Lent E C) → let st = (calls search_call start xs).1 in FedAlike F cap st x → refusal_of st x ≡ None → 0 < x.allowance → MovesOn F cap st x
     moves_after keyed xs fair x f o p = moves_on _ _ x f (calls_agree opened start fresh xs fair (start_like keyed)).1 o p
 
     -- ---- Question 8 never refuses a state that such a list left.

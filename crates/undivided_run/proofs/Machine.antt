@@ -3,7 +3,7 @@ use mathlib.Core.Path.{◌≡◌, refl, ap}
 use Prim.Native.Nat.{ℕ, zero, suc, ◌<◌}
 use native.Mathlib.Omega.{arith}
 use mathlib.Core.List.{List, [], ◌∷◌, ◌++◌, append_assoc, append-nil}
-use mathlib.Core.Option.{Option, none, some}
+use Rattle.std.specs.Prelude.{Option, None, Some}
 use lib.ListN.{take, drop, length, length-drop}
 use lib.Seq.{take-add}
 use Rattle.undivided_run.specs.declared.state.Status.{Status}
@@ -18,8 +18,8 @@ module _ {C : Type 0} (gives : Read → Option C) where
   candidates_append (x ∷ xs) ys = by (gives x) (candidates_append xs ys)
     where
       by : (g : Option C) → candidates gives (xs ++ ys) ≡ candidates gives xs ++ candidates gives ys → cases g (candidates gives (xs ++ ys)) (λ c. c ∷ candidates gives (xs ++ ys)) ≡ cases g (candidates gives xs) (λ c. c ∷ candidates gives xs) ++ candidates gives ys
-      by none h = h
-      by (some c) h = ap (c ∷◌) h
+      by None h = h
+      by (Some c) h = ap (c ∷◌) h
 
   found_serve : (s : Status) (rs : List Read) (a : ℕ) → candidates gives (take (serve gives s rs a).1 rs) ≡ found ((serve gives s rs a).0 ∷ [])
   unfolding serve candidates found cases
@@ -28,8 +28,8 @@ module _ {C : Type 0} (gives : Read → Option C) where
   found_serve s (r ∷ rs) (suc a) = by (gives r) refl (serve gives s rs a) (found_serve s rs a)
     where
       by : (g : Option C) → gives r ≡ g → (u : Answer C × ℕ) → candidates gives (take u.1 rs) ≡ found (u.0 ∷ []) → let v : Answer C × ℕ = cases g (u.0, suc u.1) (λ x. (candidate x, 1)) in candidates gives (take v.1 (r ∷ rs)) ≡ found (v.0 ∷ [])
-      by none e u h = rw e h
-      by (some x) e u h = rw e
+      by None e u h = rw e h
+      by (Some x) e u h = rw e
 
   found_cons : (w : Answer C) (ws : List (Answer C)) → found (w ∷ ws) ≡ found (w ∷ []) ++ found ws
   unfolding found
@@ -63,8 +63,8 @@ module _ {C : Type 0} (gives : Read → Option C) where
     serve_takes s (r ∷ rs) a h = by (gives r) (serve gives s rs a)
       where
         by : (g : Option C) (u : Answer C × ℕ) → let v : Answer C × ℕ = cases g (u.0, suc u.1) (λ x. (candidate x, 1)) in 0 < v.1
-        by none u = omega arith
-        by (some x) u = omega arith
+        by None u = omega arith
+        by (Some x) u = omega arith
 
     -- A call that is allowed a read takes one, unless none is left.
     pub progress : (mc : Machine) (a : ℕ) → mc.taken < length run.reads → mc.taken < (machine gives run mc (allowed (suc a))).1.taken

@@ -5,7 +5,7 @@ use Prim.Native.Nat.{ℕ, zero, suc, pred, ◌+◌, ◌-◌, ◌*◌, ◌≤◌,
 use native.Mathlib.Omega.{arith}
 use mathlib.Core.List.{List, [], ◌∷◌, ◌++◌, map}
 use mathlib.Core.Bool.{Bool, true, false, cond, ◌&&◌, ◌||◌}
-use mathlib.Core.Option.{Option, none, some}
+use Rattle.std.specs.Prelude.{Option, None, Some}
 use lib.Dec.{ltb}
 use borrow.Author.Tests.{ltb-true}
 use lib.ListN.{length, length-append, length-map}
@@ -15,7 +15,7 @@ use Rattle.combinations.specs.Lists.{each, span}
 use Rattle.combinations.specs.Successor.{first_combination, next_combination}
 use Rattle.undivided_run.specs.declared.state.Status.{Status}
 use Rattle.undivided_run.specs.declared.state.Status.TheVariants.{TooFew, NoMatch}
-use Rattle.undivided_run.specs.declared.state.Cap.{Cap}
+use Rattle.undivided_run.specs.Undivided.{Cap}
 use Rattle.undivided_run.specs.declared.state.Position.{Position as Read}
 use Rattle.undivided_run.specs.declared.state.Next.{Next}
 use Rattle.undivided_run.specs.declared.state.Next.TheVariants.{Goes as goes}
@@ -161,10 +161,10 @@ module _ {E C : Type 0} (F : Feed E C) (cap : Cap) (keyed : Keyed F) where
   either true w v h k = h refl
   either false w v h k = k refl
 
-  option : (o : Option Combination) (w : Next) (f : Combination → Next) → NextExists F w → ((q : Combination) → o ≡ some q → NextExists F (f q)) → NextExists F (cases o w f)
+  option : (o : Option Combination) (w : Next) (f : Combination → Next) → NextExists F w → ((q : Combination) → o ≡ Some q → NextExists F (f q)) → NextExists F (cases o w f)
   unfolding cases
-  option none w f h k = h
-  option (some q) w f h k = k q refl
+  option None w f h k = h
+  option (Some q) w f h k = k q refl
 
   to_combination_here : (n i : ℕ) (q : Combination) → CombinationExists F i q → NextExists F (to_combination cap n i q)
   unfolding to_combination

@@ -4,7 +4,7 @@ use Prim.Native.Nat.{ℕ, zero, suc, ◌+◌, ◌≤◌}
 use native.Mathlib.Omega.{arith}
 use mathlib.Core.List.{List, [], ◌∷◌, ◌++◌}
 use mathlib.Core.Bool.{Bool, true, false, cond}
-use mathlib.Core.Option.{Option, none, some}
+use Rattle.std.specs.Prelude.{Option, None, Some}
 use lib.ListN.{take, drop, length, length-drop}
 use lib.Seq.{drop-drop, take-add}
 use Rattle.undivided_run.specs.declared.state.Status.{Status}
@@ -39,7 +39,7 @@ tried_append (x ∷ xs) ys = by (starts x) (tried_append xs ys)
 tried_add : (n k : ℕ) (rs : List Read) → tried (take n rs) + tried (take k (drop n rs)) ≡ tried (take (n + k) rs)
 tried_add n k rs = rw (take-add, tried_append)
 
-final_left : (first : Next) (g : Stage) (r : Read) → resume first g ≡ goes r → final g ≡ none
+final_left : (first : Next) (g : Stage) (r : Read) → resume first g ≡ goes r → final g ≡ None
 unfolding resume final
 final_left first new r h = refl
 final_left first (at p) r h = refl
@@ -72,8 +72,8 @@ module _ {C : Type 0} (gives : Read → Option C) (valid : Read → Bool) (ok : 
   -- one read, and what follows it, by whether it gives a candidate
   read_serves : (g : Option C) (r : Read) (rs : List Read) (s : Status) (n m : ℕ) (w : Next) (t : Answer C × State) (u : Answer C × ℕ) → Traverses next w (count_tried r n) rs s → (t.0 ≡ u.0) × After s rs (count_tried r n) (suc m) u.1 t.1 → let k : Answer C × State = cases g t (λ x. (candidate x, record { phase = phase_of w; patterns = count_tried r n; reads = suc m })) in let v : Answer C × ℕ = cases g (u.0, suc u.1) (λ x. (candidate x, 1)) in (k.0 ≡ v.0) × After s (r ∷ rs) n m v.1 k.1
   unfolding cases
-  read_serves none r rs s n m w t u h e = (e.0, one_more r rs s n m u.1 t.1 e.1)
-  read_serves (some x) r rs s n m w t u h e = (refl, one_more r rs s n m 0 _ (settled w (count_tried r n) (suc m) rs s h))
+  read_serves None r rs s n m w t u h e = (e.0, one_more r rs s n m u.1 t.1 e.1)
+  read_serves (Some x) r rs s n m w t u h e = (refl, one_more r rs s n m 0 _ (settled w (count_tried r n) (suc m) rs s h))
 
   abbrev Serves : (s : Status) (rs : List Read) (a n m : ℕ) (t : Answer C × State) → Type 0
   Serves s rs a n m t = (t.0 ≡ (serve gives s rs a).0) × After s rs n m (serve gives s rs a).1 t.1

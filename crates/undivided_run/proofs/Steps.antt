@@ -7,9 +7,8 @@ use mathlib.Core.Bool.{Bool, true, false, cond, ◌||◌}
 use lib.Dec.{ltb}
 use borrow.Author.Tests.{lt-ltb, le-ltb}
 use Rattle.combinations.specs.declared.Combination.{Combination}
-use Rattle.combinations.specs.Successor.{first_combination, next_combination, maybe_of}
-use Rattle.combinations.specs.declared.NextCombination.{NextCombination}
-use Rattle.combinations.specs.declared.NextCombination.TheVariants.{Next as Following, Nothing}
+use Rattle.combinations.specs.Successor.{first_combination, next_combination}
+use Rattle.std.specs.Prelude.{Option, None, Some}
 use Rattle.undivided_run.specs.Undivided.{Status, TooFew, NoMatch, Timeout, Read, Feed, Cap, reached, is_zero, cases, filled, starts}
 use Rattle.undivided_run.specs.Step.{Next, goes, ends, count_tried, to_pass, after_combination, after_key, next_read}
 use Rattle.undivided_run.specs.Moves.{first_of, probed, keyed, to_combination}
@@ -62,22 +61,22 @@ module _ {E C : Type 0} (F : Feed E C) (cap : Cap) (tried : ℕ) where
         pub from_off : is_zero F.slots || is_zero F.patterns ≡ true → from (i + 1) NoMatch ≡ from i s
         from_off z = sym (from_at ∙ rw (← e, f, ← ke, le-ltb k 4 l, z, add-one))
 
-        module _ (z : is_zero F.slots || is_zero F.patterns ≡ false) (m : NextCombination) (me : maybe_of m ≡ first_combination k) where
-          pub from_open : (q : Combination) → m ≡ Following q → from i s ≡ goes (first_of i q)
+        module _ (z : is_zero F.slots || is_zero F.patterns ≡ false) (m : Option Combination) (me : m ≡ first_combination k) where
+          pub from_open : (q : Combination) → m ≡ Some q → from i s ≡ goes (first_of i q)
           unfolding to_combination cases
           from_open q o = from_at ∙ rw (← e, f, ← ke, le-ltb k 4 l, z, ← me, o)
 
-          pub from_none : m ≡ Nothing → from (i + 1) NoMatch ≡ from i s
+          pub from_none : m ≡ None → from (i + 1) NoMatch ≡ from i s
           unfolding cases
           from_none o = sym (from_at ∙ rw (← e, f, ← ke, le-ltb k 4 l, z, ← me, o, add-one))
 
   -- ---- After the last read of a combination.
-  module _ (i : ℕ) (q : Combination) (k : ℕ) (ke : k ≡ F.kept i) (m : NextCombination) (me : maybe_of m ≡ next_combination k q) where
-    pub four_more : (p : Combination) → m ≡ Following p → after_combination F cap i q tried ≡ to_combination cap tried i p
+  module _ (i : ℕ) (q : Combination) (k : ℕ) (ke : k ≡ F.kept i) (m : Option Combination) (me : m ≡ next_combination k q) where
+    pub four_more : (p : Combination) → m ≡ Some p → after_combination F cap i q tried ≡ to_combination cap tried i p
     unfolding after_combination cases
     four_more p e = rw (← ke, ← me, e)
 
-    pub four_last : m ≡ Nothing → after_combination F cap i q tried ≡ from (i + 1) NoMatch
+    pub four_last : m ≡ None → after_combination F cap i q tried ≡ from (i + 1) NoMatch
     unfolding after_combination cases
     four_last e = rw (← ke, ← me, e, add-one)
 

@@ -1,6 +1,6 @@
 -- Document 01, "Calls on it". Assumes nothing.
 use Rattle.std.specs.Prelude.{ℕ, zero, suc, ◌+◌, List, [], ◌∷◌, cond, drop}
-use Rattle.std.proofs.Math.Option.{Option, none, some}
+use Rattle.std.specs.Prelude.{Option, None, Some}
 use Rattle.undivided_run.specs.Undivided.{Status, Read, Run, starts, cases}
 
 -- What a call answers: a candidate, allowance used, ended with a status, or refused with a number.
@@ -22,12 +22,12 @@ pub record Machine : Type 0 where
 
 -- The machine before any call.
 unfoldable pub fresh : Machine
-fresh = record { taken = 0; final = none }
+fresh = record { taken = 0; final = None }
 
 -- The final status when these reads are left: s when the list is empty, none while a read is left.
 unfoldable pub final_of : Status → List Read → Option Status
-final_of s [] = some s
-final_of s (r ∷ rs) = none
+final_of s [] = Some s
+final_of s (r ∷ rs) = None
 
 -- How many combinations are tried in these reads.
 unfoldable pub tried : List Read → ℕ

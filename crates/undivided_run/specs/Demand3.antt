@@ -1,8 +1,8 @@
 -- A list of search calls from a fresh state, and what demand 3 of the mission says of it. Definitions only.
 use Rattle.std.specs.Prelude.{◌≡◌, ℕ, ◌+◌, ◌<◌, ◌⊎◌, List, [], ◌∷◌, take, drop}
-use Rattle.std.proofs.Math.Option.{Option, none, some}
+use Rattle.std.specs.Prelude.{Option, None, Some}
 use Rattle.undivided_run.specs.declared.state.Status.{Status}
-use Rattle.undivided_run.specs.declared.state.Cap.{Cap}
+use Rattle.undivided_run.specs.Undivided.{Cap}
 use Rattle.undivided_run.specs.declared.state.Position.{Position as Read}
 use Rattle.undivided_run.specs.declared.state.Next.TheVariants.{Goes as goes, Ends as ends}
 use Rattle.undivided_run.specs.declared.state.Phase.TheVariants.{Fresh as new, At as at, Ended as done}
@@ -13,8 +13,8 @@ use Rattle.undivided_run.specs.Step.{start, final, resume, first_read, Lent, sea
 
 -- What the machine is fed for a call: the refusal's number where the questions refuse it, else its allowance.
 unfoldable pub fed_for : Option ℕ → ℕ → Fed
-fed_for none a = allowed a
-fed_for (some k) a = refusal k
+fed_for None a = allowed a
+fed_for (Some k) a = refusal k
 
 -- What the machine is fed for a list of calls, each given the state that the call before it left.
 unfoldable pub feeds : {E C : Type 0} → State → List (Lent E C) → List Fed
@@ -25,16 +25,16 @@ feeds st (x ∷ xs) = fed_for (refusal_of st x) x.allowance ∷ feeds (search_ca
 -- no read; else at the read of the run after the n-th, n being the reads taken.
 pub record Leaves (run : Run) (m : Machine) (st : State) : Type 0 where
   -- Where the machine has a final status, the state is ended with it.
-  pub ended : (s : Status) → m.final ≡ some s → st.phase ≡ done s
+  pub ended : (s : Status) → m.final ≡ Some s → st.phase ≡ done s
   -- Where the machine has no final status and took no read, the state is fresh.
-  pub unread : m.final ≡ none → m.taken ≡ 0 → st.phase ≡ new
+  pub unread : m.final ≡ None → m.taken ≡ 0 → st.phase ≡ new
   -- Where the machine has no final status and took a read, the state is at the first of the reads that are left.
-  pub onward : m.final ≡ none → 0 < m.taken → (r : Read) × (rs : List Read) × (drop m.taken run.reads ≡ r ∷ rs) × (st.phase ≡ at r)
+  pub onward : m.final ≡ None → 0 < m.taken → (r : Read) × (rs : List Read) × (drop m.taken run.reads ≡ r ∷ rs) × (st.phase ≡ at r)
 
 module _ {E C : Type 0} (F : Feed E C) (cap : Cap) where
   -- A call that is not refused is lent what the run is fed; a refused one may be lent anything.
   abbrev pub FedAlike : State → Lent E C → Type 0
-  FedAlike st x = refusal_of st x ≡ none → (x.feed ≡ F) × (x.cap ≡ cap)
+  FedAlike st x = refusal_of st x ≡ None → (x.feed ≡ F) × (x.cap ≡ cap)
 
   -- Each call of a list, in turn, is lent what the run is fed unless it is refused.
   abbrev pub FedAlikeList : State → List (Lent E C) → Type 0
@@ -71,7 +71,7 @@ module _ {E C : Type 0} (F : Feed E C) (cap : Cap) where
 -- Proved as `progress_any`.
 abbrev pub ProgressAny : {E C : Type 0} → State → Lent E C → Type 0
 ProgressAny st x =
-    refusal_of st x ≡ none → (0 < x.allowance)
+    refusal_of st x ≡ None → (0 < x.allowance)
     → (st.reads < (search_call st x).1.reads)
     ⊎ ((s : Status) × (resume (first_read x.feed x.cap) st.phase ≡ ends s) × ((search_call st x).0 ≡ over s))
 
@@ -83,9 +83,9 @@ UsedExactly st x = (search_call st x).0 ≡ used → (search_call st x).1.reads 
 -- ended and the ended state; and where a read is left, "allowance used" and the state received.
 abbrev pub NoReadMade : {E C : Type 0} → State → Lent E C → Answer C × State → Type 0
 NoReadMade st x t =
-    ((k : ℕ) × (x.asked st ≡ some k) × (t ≡ (refused k, st)))
-    ⊎ ((x.asked st ≡ none) × (s : Status) × (resume (first_read x.feed x.cap) st.phase ≡ ends s) × (t ≡ (over s, record { phase = done s; patterns = st.patterns; reads = st.reads })))
-    ⊎ ((x.asked st ≡ none) × (r : Read) × (resume (first_read x.feed x.cap) st.phase ≡ goes r) × (t ≡ (used, st)))
+    ((k : ℕ) × (x.asked st ≡ Some k) × (t ≡ (refused k, st)))
+    ⊎ ((x.asked st ≡ None) × (s : Status) × (resume (first_read x.feed x.cap) st.phase ≡ ends s) × (t ≡ (over s, record { phase = done s; patterns = st.patterns; reads = st.reads })))
+    ⊎ ((x.asked st ≡ None) × (r : Read) × (resume (first_read x.feed x.cap) st.phase ≡ goes r) × (t ≡ (used, st)))
 
 -- Every call with allowance 0 gives what `NoReadMade` says, whatever its state and whatever it is lent. Proved as `zero_keeps`.
 abbrev pub ZeroKeeps : {E C : Type 0} → State → Lent E C → Type 0
@@ -93,4 +93,4 @@ ZeroKeeps st x = x.allowance ≡ 0 → NoReadMade st x (search_call st x)
 
 -- "An ended state ends again alike.": proved as `ends_alike`.
 abbrev pub EndsAlike : {E C : Type 0} → State → Lent E C → Type 0
-EndsAlike st x = (s : Status) → st.phase ≡ done s → refusal_of st x ≡ none → search_call st x ≡ (over s, st)
+EndsAlike st x = (s : Status) → st.phase ≡ done s → refusal_of st x ≡ None → search_call st x ≡ (over s, st)

@@ -1,7 +1,7 @@
 -- The search call in the order in which the code makes it: the next read is worked out from the present one. The function that gives the read after a
 -- read is called the successor; the laws prove that it gives the reads of the undivided run. Assumes nothing.
 use Rattle.std.specs.Prelude.{ℕ, zero, suc, ◌-◌, ◌≡◌, List, [], ◌∷◌, Bool, true, false, cond, ◌&&◌, ◌||◌, ltb}
-use Rattle.std.proofs.Math.Option.{Option, none, some}
+use Rattle.std.specs.Prelude.{Option, None, Some}
 use Rattle.combinations.specs.declared.Combination.{Combination}
 use Rattle.combinations.specs.Successor.{first_combination, next_combination}
 use Rattle.undivided_run.specs.Undivided.{Status, TooFew, NoMatch, Timeout, Read, Feed, Cap, reached, is_zero, cases, starts, slot_of, filled, gives}
@@ -24,9 +24,9 @@ phase_of (ends s) = done s
 
 -- The final status of a phase: that of an ended one, and none otherwise.
 unfoldable pub final : Stage → Option Status
-final new = none
-final (at r) = none
-final (done s) = some s
+final new = None
+final (at r) = None
+final (done s) = Some s
 
 -- The combinations tried once the read r is made, where n were tried before it.
 unfoldable pub count_tried : Read → ℕ → ℕ
@@ -145,4 +145,4 @@ question9_refuses st x =
 
 -- The number under which the questions refuse a call: the first no of 1 to 8, or 9, asked at every filled slot that the call reads.
 unfoldable pub refusal_of : {E C : Type 0} → State → Lent E C → Option ℕ
-refusal_of st x = cases (x.asked st) (cond (question9_refuses st x) (some 9) none) λ k. some k
+refusal_of st x = cases (x.asked st) (cond (question9_refuses st x) (Some 9) None) λ k. Some k

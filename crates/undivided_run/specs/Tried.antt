@@ -2,8 +2,8 @@
 use Rattle.std.specs.Prelude.{◌≡◌, ℕ, zero, suc, ◌≤◌, List, [], ◌∷◌, ◌++◌, map, cond, ◌||◌, ltb, take}
 use Rattle.combinations.specs.declared.Combination.{Combination}
 use Rattle.combinations.specs.Combinations.{combination_list}
-use Rattle.undivided_run.specs.declared.state.Cap.{Cap}
-use Rattle.undivided_run.specs.declared.state.Cap.TheVariants.{Absent as absent, Given as given}
+use Rattle.undivided_run.specs.Undivided.{Cap}
+use Rattle.std.specs.Prelude.{None as absent, Some as given}
 use Rattle.undivided_run.specs.declared.state.Position.{Position as Read}
 use Rattle.undivided_run.specs.Undivided.{Feed, is_zero, starts}
 

@@ -1,15 +1,19 @@
 -- Document 01, "One search" and "The undivided run". Assumes nothing.
 use Rattle.std.specs.Prelude.{ℕ, zero, suc, ◌+◌, ◌*◌, ◌%◌, List, [], ◌∷◌, ◌++◌, Bool, true, false, cond, ◌&&◌, ◌||◌, leb, ltb}
-use Rattle.std.proofs.Math.Option.{Option, none, some}
+use Rattle.std.specs.Prelude.{Option, None, Some}
 use Rattle.combinations.specs.declared.Combination.{Combination}
 use Rattle.combinations.specs.Combinations.{combination_list}
 use Rattle.combinations.specs.Lists.{each, upto}
 pub use Rattle.undivided_run.specs.declared.state.Status.{Status}
 pub use Rattle.undivided_run.specs.declared.state.Status.TheVariants.{TooFew, NoMatch, Timeout}
-pub use Rattle.undivided_run.specs.declared.state.Cap.{Cap}
-pub use Rattle.undivided_run.specs.declared.state.Cap.TheVariants.{Absent as absent, Given as given}
+-- A cap is given with its value or absent.
+pub use Rattle.std.specs.Prelude.{None as absent, Some as given}
 -- One read is one probe: it is known by its pass, combination, key number and probe number.
 pub use Rattle.undivided_run.specs.declared.state.Position.{Position as Read}
+
+-- The cap: the most combinations that a run may try, where there is such a limit.
+abbrev pub Cap : Type 0
+Cap = Option ℕ
 
 -- A cap already reached by the combinations tried so far.
 unfoldable pub reached : Cap → ℕ → Bool
@@ -58,13 +62,13 @@ is_zero (suc n) = false
 
 -- Whether an option has a value.
 unfoldable pub is_some : {A : Type 0} → Option A → Bool
-is_some none = false
-is_some (some x) = true
+is_some None = false
+is_some (Some x) = true
 
 -- b where the option is none, and f of its value where it has one.
 unfoldable pub cases : {A B : Type 0} → Option A → B → (A → B) → B
-cases none b f = b
-cases (some x) b f = f x
+cases None b f = b
+cases (Some x) b f = f x
 
 -- Whether this read is the first of its combination: "A combination is tried, and counts, when its first slot is read."
 unfoldable pub starts : Read → Bool
@@ -81,7 +85,7 @@ module _ {E C : Type 0} (F : Feed E C) where
 
   -- The candidate of this read: it gives one exactly when its slot is filled and the entry passes the tests.
   unfoldable pub gives : Read → Option C
-  gives r = cases (F.entry (slot_of r)) none λ e. F.test r e
+  gives r = cases (F.entry (slot_of r)) None λ e. F.test r e
 
   -- The reads of key k of combination q of pass i from probe c on, at most `left` of them: "the first empty slot ends the chain".
   unfoldable pub chain : ℕ → Combination → ℕ → ℕ → ℕ → List Read

@@ -2,7 +2,7 @@
 // probe number. The undivided run and the calls on it are in specs/.
 ghost use Rattle.std.specs.Prelude.{◌≡◌, ◌<◌};
 ghost use Rattle.undivided_run.specs.Undivided.{reached};
-ghost use Rattle.undivided_run.specs.Step.{count_tried, phase_of};
+ghost use Rattle.undivided_run.specs.Step.{start, count_tried, phase_of};
 ghost use Rattle.undivided_run.specs.Moves.{first_of, probed, keyed, at_key, to_combination};
 
 use combinations::Combination;
@@ -15,13 +15,6 @@ pub enum Status {
     Timeout,
 }
 
-// The most combinations that a run may try, where there is such a limit.
-#[derive(Clone, Copy)]
-pub enum Cap {
-    Given(u64),
-    Absent,
-}
-
 // One read of the table: probe number `probe` of key number `key` of the combination `four` of pass number `pass`.
 #[derive(Clone, Copy)]
 pub struct Position {
@@ -32,6 +25,7 @@ pub struct Position {
 }
 
 // The next read, or the status that ends the run.
+// Kept: not a Result, since the end of a run is an answer and no failure, and a ControlFlow would say the same in std's words, which are no plainer.
 #[derive(Clone, Copy)]
 pub enum Next {
     Goes(Position),
@@ -62,25 +56,39 @@ pub struct Cursor {
     pub reads: u64,
 }
 
-impl Cap {
-    // Whether the cap is reached by the combinations tried so far.
-    pub fn reached(self, tried: u64) -> bool
-        ensures { result ≡ reached self tried }
-    {
-        match self {
-            Cap::Absent => false,
-            Cap::Given(most) => most <= tried,
-        }
+// Returns whether the cap is reached by the combinations tried so far. The cap is the most combinations that a run may try, where there is such
+// a limit.
+pub fn reached(cap: Option<u64>, tried: u64) -> bool
+    ensures { result ≡ reached cap tried }
+{
+    match cap {
+        None => false,
+        Some(most) => most <= tried,
     }
+}
 
-    // The first read of a combination, the cap asked before it.
-    pub fn to_combination(self, tried: u64, pass: u32, four: Combination) -> Next
-        ensures { result ≡ to_combination self tried pass four }
+impl Next {
+    // Returns the first read of a combination, or Timeout where the cap is reached before it.
+    pub fn to_combination(cap: Option<u64>, tried: u64, pass: u32, four: Combination) -> Next
+        ensures { result ≡ to_combination cap tried pass four }
     {
-        if self.reached(tried) {
+        if reached(cap, tried) {
             return Next::Ends(Status::Timeout);
         }
         Next::Goes(Position::first_of(pass, four))
+    }
+}
+
+impl State {
+    // Returns the state of a search that has not begun.
+    pub fn fresh() -> State
+        ensures { result ≡ start }
+    {
+        State {
+            phase: Phase::Fresh,
+            patterns: 0,
+            reads: 0,
+        }
     }
 }
 

@@ -1,7 +1,7 @@
 use Rattle.search_feed.proofs.make_candidate.Goals as goal
 
-pub returns-in-PassedOver : goal.returns-in-PassedOver
-returns-in-PassedOver c = rw c.in-PassedOver.is c.blank.ensures
+pub returns-in_default : goal.returns-in_default
+returns-in_default c = rw c.in_default.is
 
-pub returns-in-Hit : goal.returns-in-Hit
-returns-in-Hit c = rw (c.in-Hit.is, c.needs_rebuild-rebuild.ensures)
+pub returns : goal.returns
+returns c = rw (c.in-Some.is, c.needs_rebuild-rebuild.ensures)

@@ -1,10 +1,10 @@
-use mathlib.Core.Path.{ap, ◌∙◌}
-use native.Mathlib.Omega.{arith}
+use mathlib.Core.Path.{◌≡◌, ap, ◌∙◌}
 use mathlib.Core.List.{[]}
+use native.Mathlib.Omega.{arith}
+use borrow.Author.Rules.{rules}
+use Rattle.std.specs.Prelude.{Ok, Err}
 use Rattle.pattern_catalog.specs.SlotRead.{slot_in}
 use Rattle.pattern_catalog.proofs.SlotRead.{fits_few, fits_block}
-use Rattle.search_feed.specs.TableRead.{blank}
-use Rattle.search_feed.specs.declared.ReadOutcome.TheVariants.{Empty}
 use Rattle.search_feed.proofs.TableRead.{read_slot_empty, read_slot_refused, read_slot_inside, read_slot_at}
 use Rattle.search_feed.proofs.read_slot.Goals as goal
 
@@ -16,23 +16,23 @@ pub find_in-requires : goal.find_in-requires
 find_in-requires c =
     fits_block c.args.slots c.args.words.now c.requires.7 _ c.slot_of_probe-slot.ensures.1
 
+pub returns-in_err-entry : goal.returns-in_err-entry
+returns-in_err-entry c =
+    let s = ap (slot_in c.args.words.now c.args.packed.now) c.slot_of_probe-slot.ensures.0 in
+    let h : c.from_residual.result ≡ Err c.in_err-entry.field-0.0 = search rules in
+    h ∙ read_slot_refused _ _ _ _ _ _ _ _ _ _ _ (c.find_in.ensures ∙ s) _ c.in_err-entry.was
+
+pub returns-in_default : goal.returns-in_default
+returns-in_default c =
+    let s = ap (slot_in c.args.words.now c.args.packed.now) c.slot_of_probe-slot.ensures.0 in
+    read_slot_empty _ _ _ _ _ _ _ _ _ _ _ (c.find_in.ensures ∙ s) (c.in_ok-entry.was ∙ ap Ok c.in_default.is)
+
 pub evaluate_entry-requires : goal.evaluate_entry-requires
 evaluate_entry-requires c =
-    (read_slot_inside c.args.words.now c.args.packed.now _ 0 [] 0 c.args.image c.args.config c.args.field c.args.stars.now _ c.find_in.ensures (blank Empty) _ c.in-At.is, c.requires.6)
+    (read_slot_inside c.args.words.now c.args.packed.now _ 0 [] 0 c.args.image c.args.config c.args.field c.args.stars.now _ c.find_in.ensures _ (c.in_ok-entry.was ∙ ap Ok c.in-Some.is), c.requires.6)
 
-pub returns-in-Empty : goal.returns-in-Empty
-returns-in-Empty c =
-    let a = c.args in
-    read_slot_empty _ _ _ _ _ _ _ _ _ _ _ (c.find_in.ensures ∙ ap (slot_in a.words.now a.packed.now) c.slot_of_probe-slot.ensures.0) _ c.in-Empty.is c.blank.ensures
-
-pub returns-in-Refused : goal.returns-in-Refused
-returns-in-Refused c =
-    let a = c.args in
-    read_slot_refused _ _ _ _ _ _ _ _ _ _ _ (c.find_in.ensures ∙ ap (slot_in a.words.now a.packed.now) c.slot_of_probe-slot.ensures.0) _ _ c.in-Refused.is c.blank-in-Refused.ensures
-
-pub returns-in-At : goal.returns-in-At
-returns-in-At c =
-    let a = c.args in
+pub returns : goal.returns
+returns c =
     let s = c.slot_of_probe-slot.ensures.0 in
-    read_slot_at _ _ _ _ _ _ _ _ _ _ _ (c.find_in.ensures ∙ ap (slot_in a.words.now a.packed.now) s) _ _ c.in-At.is
+    read_slot_at _ _ _ _ _ _ _ _ _ _ _ (c.find_in.ensures ∙ ap (slot_in c.args.words.now c.args.packed.now) s) _ (c.in_ok-entry.was ∙ ap Ok c.in-Some.is) _
     (rw (s, c.places_at-four.ensures) at c.evaluate_entry.ensures)

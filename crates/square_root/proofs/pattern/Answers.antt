@@ -3,14 +3,8 @@ use mathlib.Core.Path.{refl, subst}
 use Prim.Native.Nat.{ℕ, ◌%◌}
 use native.Mathlib.Omega.{arith}
 use Rattle.square_root.specs.Steps.{Nearest}
-use Rattle.square_root.proofs.Values.{doubled, in_range}
+use Rattle.square_root.proofs.Values.{doubled}
 use Rattle.square_root.proofs.pattern.Goals as goal
-
-pub overflow_mul-n-2 : goal.overflow_mul-n-2
-overflow_mul-n-2 c = omega (arith, in_range c.args.m (c.args.e % 2) (omega arith) (omega arith) (omega arith))
-
-pub nearest-q-requires : goal.nearest-q-requires
-nearest-q-requires c = omega (arith, in_range c.args.m (c.args.e % 2) (omega arith) (omega arith) (omega arith))
 
 pub returns : goal.returns
 returns c =

@@ -13,12 +13,6 @@ shifted c = moved c.args.b c.requires.0 c.requires.1
 pub overflow_sub-z : goal.overflow_sub-z
 overflow_sub-z c = omega (arith, shifted c)
 
-pub overflow_shl-b : goal.overflow_shl-b
-overflow_shl-b c = omega (arith, shifted c)
-
-pub overflow_sub-z-2 : goal.overflow_sub-z-2
-overflow_sub-z-2 c = omega (arith, shifted c)
-
 pub pattern-requires : goal.pattern-requires
 pattern-requires c = omega (arith, shifted c)
 

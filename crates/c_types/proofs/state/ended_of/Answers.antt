@@ -1,19 +1,20 @@
-use borrow.Author.Tests.{eq-eqb, ne_eqb}
+use native.Mathlib.Omega.{arith}
+use borrow.Author.Tests.{ne_eqb}
 use Rattle.c_types.specs.State.{ended_of}
 use Rattle.c_types.proofs.state.ended_of.Goals as goal
 
-pub returns-then-status-eq0 : goal.returns-then-status-eq0
+pub returns-in-0 : goal.returns-in-0
 unfolding ended_of
-returns-then-status-eq0 c = rw (eq-eqb _ _ c.if-status-eq0.true)
+returns-in-0 c = rw c.in-0.is
 
-pub returns-then-status-eq1 : goal.returns-then-status-eq1
+pub returns-in-1 : goal.returns-in-1
 unfolding ended_of
-returns-then-status-eq1 c = rw (ne_eqb _ _ c.if-status-eq0.false, eq-eqb _ _ c.if-status-eq1.true)
+returns-in-1 c = rw c.in-1.is
 
-pub returns-then-status-eq2 : goal.returns-then-status-eq2
+pub returns-in-2 : goal.returns-in-2
 unfolding ended_of
-returns-then-status-eq2 c = rw (ne_eqb _ _ c.if-status-eq0.false, ne_eqb _ _ c.if-status-eq1.false, eq-eqb _ _ c.if-status-eq2.true)
+returns-in-2 c = rw c.in-2.is
 
-pub returns : goal.returns
+pub returns-in_default : goal.returns-in_default
 unfolding ended_of
-returns c = rw (ne_eqb _ _ c.if-status-eq0.false, ne_eqb _ _ c.if-status-eq1.false, ne_eqb _ _ c.if-status-eq2.false, c.unknown_state.ensures)
+returns-in_default c = rw (ne_eqb c.args.status 0 (λ e. omega arith), ne_eqb c.args.status 1 (λ e. omega arith), ne_eqb c.args.status 2 (λ e. omega arith), c.unknown_state.ensures)

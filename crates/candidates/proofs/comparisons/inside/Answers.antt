@@ -1,25 +1,18 @@
--- `candidates::comparisons::inside` meets its contract. Assumes nothing.
-use mathlib.Core.Path.{sym, ◌∙◌}
-use borrow.Author.Tests.{not-true, not-false}
-use Rattle.candidates.specs.Comparisons.{inside}
+use lib.Ieee.{Float}
+use lib.ListN.{length}
+use mathlib.Core.Path.{◌≡◌, ◌∙◌}
+use Rattle.std.proofs.Common.{rules, tests}
+use Rattle.std.proofs.lemmas.Iterator.{YieldsList-from_slice, YieldsList-from_zip}
+use Rattle.std.proofs.lemmas.Iterator.Search.{all_from_yields_List}
+use Rattle.candidates.specs.Comparisons.{inside_one}
+use Rattle.candidates.proofs.Inside.{pairs_inside}
 use Rattle.candidates.proofs.comparisons.inside.Goals as goal
 
-pub returns-then-not-inside_one : goal.returns-then-not-inside_one
-unfolding inside
-returns-then-not-inside_one c = simp (sym c.inside_one.ensures ∙ not-true _ c.if-not-inside_one.true-raw)
-
-pub returns-then-not-inside_one-2 : goal.returns-then-not-inside_one-2
-unfolding inside
-returns-then-not-inside_one-2 c = simp (sym c.inside_one.ensures ∙ not-false _ c.if-not-inside_one.false-raw, sym c.inside_one-2.ensures ∙ not-true _ c.if-not-inside_one-2.true-raw)
-
-pub returns-then-not-inside_one-3 : goal.returns-then-not-inside_one-3
-unfolding inside
-returns-then-not-inside_one-3 c = simp (sym c.inside_one.ensures ∙ not-false _ c.if-not-inside_one.false-raw, sym c.inside_one-2.ensures ∙ not-false _ c.if-not-inside_one-2.false-raw, sym c.inside_one-3.ensures ∙ not-true _ c.if-not-inside_one-3.true-raw)
-
-pub returns-then-not-inside_one-4 : goal.returns-then-not-inside_one-4
-unfolding inside
-returns-then-not-inside_one-4 c = simp (sym c.inside_one.ensures ∙ not-false _ c.if-not-inside_one.false-raw, sym c.inside_one-2.ensures ∙ not-false _ c.if-not-inside_one-2.false-raw, sym c.inside_one-3.ensures ∙ not-false _ c.if-not-inside_one-3.false-raw, sym c.inside_one-4.ensures ∙ not-true _ c.if-not-inside_one-4.true-raw)
-
 pub returns : goal.returns
-unfolding inside
-returns c = simp (sym c.inside_one.ensures ∙ not-false _ c.if-not-inside_one.false-raw, sym c.inside_one-2.ensures ∙ not-false _ c.if-not-inside_one-2.false-raw, sym c.inside_one-3.ensures ∙ not-false _ c.if-not-inside_one-3.false-raw, sym c.inside_one-4.ensures ∙ not-false _ c.if-not-inside_one-4.false-raw, sym c.inside_one-5.ensures)
+returns c =
+    let a = c.args in
+    let r : length a.ratios ≡ 5 = search rules in
+    let x : length a.x ≡ 5 = search rules in
+    all_from_yields_List (λ (p : Float × Float). inside_one p.0 a.e p.1) c.all.new.self _ c.all.result c.all.ensures.ran
+    (YieldsList-from_zip (YieldsList-from_slice a.ratios (cc)) (YieldsList-from_slice a.x (cc))) (λ x b q k. search (rules, tests))
+    ∙ pairs_inside a.ratios a.x a.e r x

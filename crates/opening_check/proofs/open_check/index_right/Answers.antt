@@ -12,10 +12,10 @@ pub returns-then-not-tail_clear : goal.returns-then-not-tail_clear
 returns-then-not-tail_clear c = index_tail c.args.slots c.args.words.now c.args.packed.now (sym c.tail_clear.ensures ∙ not-true _ c.if-not-tail_clear.true-raw)
 
 pub overflow_mul-result : goal.overflow_mul-result
-overflow_mul-result c = let blocks : (c.args.slots + 447) / 448 ≡ length c.args.words.now / 8 = omega arith in let t = right_total c.args.words.now ((c.args.slots + 447) / 448) c.in-Right.n (ap (ranks_read c.args.words.now) blocks ∙ sym c.ranks_of-total.ensures ∙ c.in-Right.is) in omega (arith, ones_le c.args.words.now 0 ((c.args.slots + 447) / 448 * 448), c.requires)
+overflow_mul-result c = let blocks : (c.args.slots + 447) / 448 ≡ length c.args.words.now / 8 = omega arith in let t = right_total c.args.words.now ((c.args.slots + 447) / 448) c.in-Some.n (ap (ranks_read c.args.words.now) blocks ∙ sym c.ranks_of.ensures ∙ c.in-Some.is) in omega (arith, ones_le c.args.words.now 0 ((c.args.slots + 447) / 448 * 448), c.requires)
 
-pub returns-in-Wrong : goal.returns-in-Wrong
-returns-in-Wrong c = let blocks : (c.args.slots + 447) / 448 ≡ length c.args.words.now / 8 = omega arith in index_wrong c.args.slots c.args.words.now c.args.packed.now (ap (ranks_read c.args.words.now) blocks ∙ sym c.ranks_of-total.ensures ∙ c.in-Wrong.is)
+pub returns-in_default : goal.returns-in_default
+returns-in_default c = let blocks : (c.args.slots + 447) / 448 ≡ length c.args.words.now / 8 = omega arith in index_wrong c.args.slots c.args.words.now c.args.packed.now (ap (ranks_read c.args.words.now) blocks ∙ sym c.ranks_of.ensures ∙ c.in_default.is)
 
-pub returns-else-not-tail_clear : goal.returns-else-not-tail_clear
-returns-else-not-tail_clear c = let blocks : (c.args.slots + 447) / 448 ≡ length c.args.words.now / 8 = omega arith in index_is c.args.slots c.args.words.now c.args.packed.now _ (ap (ranks_read c.args.words.now) blocks ∙ sym c.ranks_of-total.ensures ∙ c.in-Right.is) (sym c.tail_clear.ensures ∙ not-false _ c.if-not-tail_clear.false-raw)
+pub returns : goal.returns
+returns c = let blocks : (c.args.slots + 447) / 448 ≡ length c.args.words.now / 8 = omega arith in index_is c.args.slots c.args.words.now c.args.packed.now _ (ap (ranks_read c.args.words.now) blocks ∙ sym c.ranks_of.ensures ∙ c.in-Some.is) (sym c.tail_clear.ensures ∙ not-false _ c.if-not-tail_clear.false-raw)

@@ -5,4 +5,4 @@ use Rattle.pattern.proofs.edges.angles.Goals as goal
 pub returns : goal.returns
 unfolding angles
 returns c =
-    same_six c.angle-ab.ensures c.angle-ac.ensures c.angle-ad.ensures c.angle-bc.ensures c.angle-bd.ensures c.angle-cd.ensures
+    same_six c.angle.ensures c.angle-2.ensures c.angle-3.ensures c.angle-4.ensures c.angle-5.ensures c.angle-6.ensures

@@ -7,19 +7,23 @@ use Rattle.pattern_catalog.proofs.count_ones.ones_in.Goals as goal
 
 pub loop-k-init : goal.loop-k-init
 unfolding ones_in
-loop-k-init c = (omega arith, refl)
+loop-k-init c = refl
 
 pub overflow_add-sum : goal.overflow_add-sum
 overflow_add-sum c = let l = c.loop-k in omega (arith, ones_le c.args.words.now (c.args.block * 448) (l.k * 64))
 
 pub loop-k-preserved : goal.loop-k-preserved
-loop-k-preserved c = let l = c.loop-k in let a = c.args in (omega arith, ap₂ ◌+◌ l.invariant.1 c.count_ones-sum.ensures.0 ∙ sym (word_more a.words.now a.block l.k (omega arith) (omega (arith, c.shared_slice_known-in-loop-k-1.given (a.block * 8 + 1 + l.k)))))
+loop-k-preserved c = let l = c.loop-k in let a = c.args in ap₂ ◌+◌ l.invariant c.count_ones-sum.ensures.0 ∙ sym (word_more a.words.now a.block l.k (omega arith) (omega (arith, c.type_inv.words (a.block * 8 + 1 + l.k))))
 
 pub returns-then-whole-eq7 : goal.returns-then-whole-eq7
-returns-then-whole-eq7 c = let l = c.loop-k in let a = c.args in l.invariant.1 ∙ ap (ones_in a.words.now (a.block * 448)) (omega arith)
+returns-then-whole-eq7 c = let l = c.loop-k in let a = c.args in l.invariant ∙ ap (ones_in a.words.now (a.block * 448)) (omega arith)
 
 pub overflow_add-result : goal.overflow_add-result
 overflow_add-result c = let l = c.loop-k in let a = c.args in omega (arith, ones_le a.words.now (a.block * 448) (l.k * 64))
 
 pub returns : goal.returns
-returns c = let l = c.loop-k in let a = c.args in let k : l.k * 64 ≡ a.n / 64 * 64 = omega arith in ap₂ ◌+◌ (l.invariant.1 ∙ ap (ones_in a.words.now (a.block * 448)) k) c.ones_below.ensures.0 ∙ sym (word_last a.words.now a.block a.n (omega arith))
+returns c =
+    let l = c.loop-k in
+    let a = c.args in
+    let k : l.k * 64 ≡ a.n / 64 * 64 = omega arith in
+    ap₂ ◌+◌ (l.invariant ∙ ap (ones_in a.words.now (a.block * 448)) k) c.ones_below.ensures.0 ∙ sym (word_last a.words.now a.block a.n (omega arith))

@@ -1,10 +1,7 @@
-use Prim.Native.Nat.{◌*◌, ◌-◌, ◌≤◌}
+use Prim.Native.Nat.{◌*◌}
 use mathlib.Core.Path.{◌≡◌}
 use Rattle.pattern_catalog.specs.Blocks.{ones_in}
 use Rattle.pattern_catalog.proofs.count_ones.ones_in.Given as goal
 
 abbrev pub invariant-loop-k : goal.invariant-loop-k
-invariant-loop-k l = (l.k ≤ l.whole) × (l.sum ≡ ones_in l.words (l.block * 448) (l.k * 64))
-
-abbrev pub decreases-loop-k : goal.decreases-loop-k
-decreases-loop-k l = l.whole - l.k
+invariant-loop-k l = l.sum ≡ ones_in l.words (l.block * 448) (l.k * 64)

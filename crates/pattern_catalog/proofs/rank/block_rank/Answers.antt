@@ -1,4 +1,4 @@
-use Rattle.pattern_catalog.specs.declared.rank.Ranked.{Ranked}
+use Rattle.std.specs.Prelude.{Some}
 use Rattle.pattern_catalog.specs.Blocks.{place}
 use Rattle.pattern_catalog.proofs.SlotPlace.{rank_out, rank_in}
 use lib.ListN.{get_or}
@@ -17,4 +17,4 @@ returns-then-below-entries c = rank_out c.args.words.now c.args.slot c.args.entr
 
 pub returns : goal.returns
 unfolding place
-returns c = ap (λ (x : ℕ). Ranked.Inside (get_or c.args.words.now (c.args.slot / 448 * 8) 0 + x)) c.ones_below_slot-below.ensures ∙ rank_in c.args.words.now c.args.slot c.args.entries (omega arith)
+returns c = ap (λ (x : ℕ). Some (get_or c.args.words.now (c.args.slot / 448 * 8) 0 + x)) c.ones_below_slot-below.ensures ∙ rank_in c.args.words.now c.args.slot c.args.entries (omega arith)

@@ -1,7 +1,7 @@
 use mathlib.Core.Path.{sym, ap, ap₂, ◌∙◌}
 use Prim.Native.Nat.{◌+◌}
 use native.Mathlib.Omega.{arith}
-use Rattle.pattern_catalog.specs.declared.rank.Ranked.{Ranked}
+use Rattle.std.specs.Prelude.{Some}
 use Rattle.pattern_catalog.proofs.SlotPlace.{rank_out, rank_in, near_place}
 use Rattle.pattern_catalog.proofs.rank.near_rank.Goals as goal
 
@@ -16,4 +16,4 @@ returns c =
     let a = c.args in
     let p = c.requires in
     let here = ap₂ ◌+◌ p.3 c.ones_below.ensures.0 ∙ sym (near_place a.words.now a.slot a.from p.1 p.2) in
-    ap Ranked.Inside here ∙ rank_in a.words.now a.slot a.entries (omega (arith, here, c.if-here-entries.false))
+    ap Some here ∙ rank_in a.words.now a.slot a.entries (omega (arith, here, c.if-here-entries.false))

@@ -1,20 +1,20 @@
-use Rattle.pattern_entry.specs.Stars.{star_valid}
-use borrow.Author.Tests.{le-ltb, lt-ltb, not-true, not-false}
-use mathlib.Core.Path.{sym, ◌∙◌}
+use mathlib.Core.Path.{◌∙◌}
+use native.Mathlib.Omega.{arith}
+use borrow.Author.Tests.{le-ltb, lt-ltb}
+use Rattle.std.proofs.Common.{rules, tests}
+use Rattle.std.proofs.lemmas.Iterator.{YieldsList-from_slice}
+use Rattle.std.proofs.lemmas.Iterator.Search.{all_from_yields_List}
+use Rattle.pattern_entry.specs.Stars.{unit, star_valid}
+use Rattle.pattern_entry.proofs.StarSlice.{three_units}
 use Rattle.pattern_entry.proofs.stars.star_valid.Goals as goal
 
 pub returns-then-k-n : goal.returns-then-k-n
 unfolding star_valid
-returns-then-k-n c = simp (le-ltb _ _ c.if-k-n.true)
+returns-then-k-n c =
+    simp (lt-ltb _ _ c.if-k-n.true)
+    (all_from_yields_List unit _ _ c.all.result c.all.ensures.ran (YieldsList-from_slice _ cc) (λ x b q k. search (rules, tests))
+    ∙ three_units c.args.stars.now c.args.i.0 (omega arith))
 
-pub returns-then-not-is_unit : goal.returns-then-not-is_unit
+pub returns-else-k-n : goal.returns-else-k-n
 unfolding star_valid
-returns-then-not-is_unit c = simp (lt-ltb _ _ c.if-k-n.false, (sym c.is_unit.ensures ∙ not-true _ c.if-not-is_unit.true-raw))
-
-pub returns-then-not-is_unit-2 : goal.returns-then-not-is_unit-2
-unfolding star_valid
-returns-then-not-is_unit-2 c = simp (lt-ltb _ _ c.if-k-n.false, (sym c.is_unit.ensures ∙ not-false _ c.if-not-is_unit.false-raw), (sym c.is_unit-2.ensures ∙ not-true _ c.if-not-is_unit-2.true-raw))
-
-pub returns : goal.returns
-unfolding star_valid
-returns c = simp (lt-ltb _ _ c.if-k-n.false, (sym c.is_unit.ensures ∙ not-false _ c.if-not-is_unit.false-raw), (sym c.is_unit-2.ensures ∙ not-false _ c.if-not-is_unit-2.false-raw)) c.is_unit-3.ensures
+returns-else-k-n c = simp (le-ltb _ _ c.if-k-n.false)

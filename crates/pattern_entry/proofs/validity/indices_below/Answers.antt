@@ -1,22 +1,17 @@
-use mathlib.Core.Path.{sym, ap, ◌∙◌}
-use Prim.Native.Nat.{ℕ}
+use mathlib.Core.Path.{◌∙◌}
 use lib.Dec.{ltb}
-use borrow.Author.Tests.{le-ltb, lt-ltb}
+use Rattle.std.proofs.Common.{rules, tests}
+use Rattle.std.proofs.lemmas.Iterator.{YieldsList-from_slice}
+use Rattle.std.proofs.lemmas.Iterator.Search.{all_from_yields_List}
+use Rattle.pattern_entry.specs.StarIndices.{stars_read}
 use Rattle.pattern_entry.specs.ValidityShortcuts.{indices_below}
+use Rattle.pattern_entry.specs.declared.stars.StarIndex.{StarIndex}
+use Rattle.pattern_entry.proofs.EntryValid.{all_stars}
 use Rattle.pattern_entry.proofs.validity.indices_below.Goals as goal
-
-pub returns-then-word-n : goal.returns-then-word-n
-unfolding indices_below
-returns-then-word-n c = let a = c.args in simp ((ap (λ (x : ℕ). ltb x a.n) (sym c.word.ensures) ∙ le-ltb _ _ c.if-word-n.true))
-
-pub returns-then-word-n-2 : goal.returns-then-word-n-2
-unfolding indices_below
-returns-then-word-n-2 c = let a = c.args in simp ((ap (λ (x : ℕ). ltb x a.n) (sym c.word.ensures) ∙ lt-ltb _ _ c.if-word-n.false), (ap (λ (x : ℕ). ltb x a.n) (sym c.word-2.ensures) ∙ le-ltb _ _ c.if-word-n-2.true))
-
-pub returns-then-word-n-3 : goal.returns-then-word-n-3
-unfolding indices_below
-returns-then-word-n-3 c = let a = c.args in simp ((ap (λ (x : ℕ). ltb x a.n) (sym c.word.ensures) ∙ lt-ltb _ _ c.if-word-n.false), (ap (λ (x : ℕ). ltb x a.n) (sym c.word-2.ensures) ∙ lt-ltb _ _ c.if-word-n-2.false), (ap (λ (x : ℕ). ltb x a.n) (sym c.word-3.ensures) ∙ le-ltb _ _ c.if-word-n-3.true))
 
 pub returns : goal.returns
 unfolding indices_below
-returns c = let a = c.args in simp ((ap (λ (x : ℕ). ltb x a.n) (sym c.word.ensures) ∙ lt-ltb _ _ c.if-word-n.false), (ap (λ (x : ℕ). ltb x a.n) (sym c.word-2.ensures) ∙ lt-ltb _ _ c.if-word-n-2.false), (ap (λ (x : ℕ). ltb x a.n) (sym c.word-3.ensures) ∙ lt-ltb _ _ c.if-word-n-3.false)) (ap (λ (x : ℕ). ltb x a.n) c.word-4.ensures)
+returns c =
+    let a = c.args in
+    all_from_yields_List (λ (i : StarIndex). ltb i.0 a.n) _ _ c.all.result c.all.ensures.ran (YieldsList-from_slice (stars_read a.e.now) cc) (λ x b q k. search (rules, tests))
+    ∙ all_stars (λ x. ltb x a.n) a.e.now

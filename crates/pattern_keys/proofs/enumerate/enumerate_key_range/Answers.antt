@@ -1,28 +1,29 @@
 use mathlib.Core.Path.{ap}
 use native.Mathlib.Omega.{arith}
+use borrow.Author.Rules.{rules}
 use lib.ListN.{length}
 use Rattle.pattern_keys.proofs.KeyCount.{in_range_length}
-use Rattle.pattern_keys.proofs.NestedLoops.{listed_small, zeros, loops_is, loops_few, loops_near, loops_hashed}
+use Rattle.pattern_keys.proofs.KeyRange.{listed_of}
+use Rattle.pattern_keys.proofs.NestedLoops.{zeros, loops_is, loops_few, loops_near, loops_hashed}
 use Rattle.pattern_keys.proofs.enumerate.enumerate_key_range.Goals as goal
 
-pub first-n-requires : goal.first-n-requires
-first-n-requires c =
-    let n = in_range_length c.args.lo c.args.hi c.requires.0 in
-    let w = loops_is c.args.lo c.args.hi in
-    (listed_small c.args.lo c.args.hi c.args.c c.args.bins c.requires.1 c.requires.2, c.requires.2, zeros c.args.hi c.args.bins c.requires.2, omega (arith, ap length w), c.room-hashes.ensures, c.room-dist.ensures)
+pub add_keys-requires : goal.add_keys-requires
+add_keys-requires c =
+    let r = c.args.ranges.now in
+    (omega arith, zeros r.hi r.bins r.parts, omega (arith, in_range_length r.lo r.hi r.narrow, ap length (loops_is r.lo r.hi)))
 
 pub sort-requires : goal.sort-requires
 sort-requires c =
-    let f = c.first-n in
-    let lo = c.args.lo in
-    let hi = c.args.hi in
-    let y = f.new in
-    (loops_few c.args.c lo hi c.args.bins c.requires.0 c.requires.1 _ _ y.hashes y.dist f.result f.ensures, loops_near c.args.c lo hi c.args.bins c.requires.0 c.requires.1 _ _ y.hashes y.dist f.result f.ensures, f.ensures.wide, f.ensures.long, c.requires.3)
+    let r = c.args.ranges.now in
+    let f = c.add_keys.new.found in
+    let listed = listed_of r.centre r.lo r.hi (search rules) r.inside in (
+      loops_few r.centre r.lo r.hi r.bins r.narrow listed _ _ f.hashes f.dist f.count c.add_keys.ensures,
+      loops_near r.centre r.lo r.hi r.bins r.narrow listed _ _ f.hashes f.dist f.count c.add_keys.ensures,
+    )
 
 pub returns : goal.returns
 returns c =
-    let f = c.first-n in
-    let lo = c.args.lo in
-    let hi = c.args.hi in
-    let y = f.new in
-    loops_hashed c.args.c lo hi c.args.bins c.requires.0 c.requires.1 _ _ y.hashes y.dist f.result f.ensures c.sort.new.out c.sort.result c.sort.ensures
+    let r = c.args.ranges.now in
+    let f = c.add_keys.new.found in
+    let listed = listed_of r.centre r.lo r.hi (search rules) r.inside in
+    loops_hashed r.centre r.lo r.hi r.bins r.narrow listed _ _ f.hashes f.dist f.count c.add_keys.ensures c.sort.new.out c.sort.result c.sort.ensures

@@ -7,17 +7,11 @@ use Rattle.numeric.specs.KeyPart.{bins32}
 use Rattle.pattern_keys.proofs.CutByComparing.{exact, part_small, next_small, high_near}
 use Rattle.pattern_keys.proofs.key_bounds.high.Goals as goal
 
-pub int_to_float-b : goal.int_to_float-b
-int_to_float-b c = exact c.args.bins (omega (arith, c.requires.1.few_bins))
-
 pub overflow_add-n : goal.overflow_add-n
 overflow_add-n c = let h = part_small c.args.r c.args.e c.args.bins c.args.k c.requires.0 c.requires.1 c.requires.2 in record { fits = omega arith }
 
 pub int_to_float-n : goal.int_to_float-n
 int_to_float-n c = exact (c.args.k + 1) (omega (arith, part_small c.args.r c.args.e c.args.bins c.args.k c.requires.0 c.requires.1 c.requires.2))
-
-pub overflow_add-n-2 : goal.overflow_add-n-2
-overflow_add-n-2 c = let h = next_small c.args.r c.args.e c.args.bins c.args.k c.smaller-x.result c.requires.0 c.requires.1 c.requires.2 in record { fits = omega arith }
 
 pub overflow_add-n-3 : goal.overflow_add-n-3
 overflow_add-n-3 c = let h = next_small c.args.r c.args.e c.args.bins c.args.k c.smaller-x.result c.requires.0 c.requires.1 c.requires.2 in record { fits = omega arith }

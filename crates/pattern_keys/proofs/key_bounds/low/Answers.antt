@@ -18,13 +18,13 @@ overflow_add-k c =
     record { fits = omega arith }
 
 pub int_to_float-n : goal.int_to_float-n
-int_to_float-n c = exact c.before-n.result (near_small c.args.r c.args.e c.args.bins c.args.k c.before-n.result c.requires.0 c.requires.1 c.requires.2 c.before-n.ensures)
+int_to_float-n c = exact c.saturating_sub-n.result (near_small c.args.r c.args.e c.args.bins c.args.k c.saturating_sub-n.result c.requires.0 c.requires.1 c.requires.2 c.saturating_sub-n.ensures)
 
 pub returns-then-n-x : goal.returns-then-n-x
-returns-then-n-x c = low_near c.args.r c.args.e c.args.bins c.args.k c.before-n.result c.requires.0 c.requires.1 c.requires.2 c.before-n.ensures c.if-n-x.true
+returns-then-n-x c = low_near c.args.r c.args.e c.args.bins c.args.k c.saturating_sub-n.result c.requires.0 c.requires.1 c.requires.2 c.saturating_sub-n.ensures c.if-n-x.true
 
 pub returns-then-n-eq0 : goal.returns-then-n-eq0
-returns-then-n-eq0 c = low_none c.args.r c.args.e c.args.bins c.args.k c.before-n.result c.requires.0 c.requires.1 c.requires.2 c.before-n.ensures c.if-n-eq0.true
+returns-then-n-eq0 c = low_none c.args.r c.args.e c.args.bins c.args.k c.saturating_sub-n.result c.requires.0 c.requires.1 c.requires.2 c.saturating_sub-n.ensures c.if-n-eq0.true
 
 pub returns : goal.returns
 unfolding of_bits

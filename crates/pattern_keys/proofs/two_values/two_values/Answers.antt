@@ -15,6 +15,6 @@ returns c =
     let code = c.code_of-centre in
     let valid = c.codes_in-valid in
     let same : keys_of_codes lo valid.result (codes_around code.result) ≡ keys_of c.args.c lo c.args.hi
-    = ap₂ (λ (v x : ℕ). keys_of_codes lo v (codes_around x)) valid.ensures code.ensures.0 ∙ keys_by_codes c.args.c lo c.args.hi B c.requires.0 in
+    = ap₂ (λ (v x : ℕ). keys_of_codes lo v (codes_around x)) valid.ensures code.ensures.0 ∙ keys_by_codes c.args.c lo c.args.hi B c.requires in
     let h = hashed lo B _ valid.result code.result 9223372036854775808 c.fill.ensures _ _ _ (codes_around code.result) (order_rises code.result code.ensures.1) c.listed.ensures in
     rw same at h

@@ -1,12 +1,10 @@
-use mathlib.Core.Path.{ap, ◌∙◌}
-use Rattle.pattern_keys.specs.ValidCodes.{level, valid_of}
+use Rattle.std.proofs.Common.{◌≡◌, ◌∙◌, arith}
+use Rattle.pattern_keys.proofs.ValidCodes.{valid_to, valid_all}
 use Rattle.pattern_keys.proofs.valid_codes.codes_in.Goals as goal
 
 pub returns : goal.returns
-unfolding valid_of
 returns c =
-    let lo = c.args.lo in
-    let p = c.keep-p.ensures ∙ ap (level 0 lo 0xff00ffff) c.in_ranges.ensures in
-    let q = c.keep-q.ensures ∙ ap (level 1 lo 0xf0fff0ff) p in
-    let s = c.keep-s.ensures ∙ ap (level 2 lo 0xcfcfcfcf) q in
-    c.keep.ensures ∙ ap (level 3 lo 0xbbbbbbbb) s
+    let l = c.loop-i in
+    let e : l.i ≡ 4 = omega arith in
+    let v : l.v ≡ valid_to c.args.lo c.args.hi 4 = rw e at l.invariant in
+    v ∙ valid_all c.args.lo c.args.hi

@@ -15,7 +15,7 @@ state_fits-eight-requires c =
 pub returns-then-not-eight : goal.returns-then-not-eight
 returns-then-not-eight c =
     let D = data_of (frame_of c.args.centroids.now c.args.order.now c.args.config c.args.passes.now) c.args.slots c.args.words.now c.args.packed.now c.args.stars.now in
-    call_eight D c.args.st c.args.allowance c.requires _ (c.state_fits-eight.ensures.fits D.words D.packed D.stars) (not-true _ c.if-not-eight.true) _ c.plain.ensures
+    call_eight D c.args.st c.args.allowance c.requires _ (c.state_fits-eight.ensures.fits D.words D.packed D.stars) (not-true _ c.if-not-eight.true)
 
 pub start_call-first-requires : goal.start_call-first-requires
 start_call-first-requires c =

@@ -6,26 +6,26 @@ use Rattle.fast_path.proofs.ValidStars.{known_below}
 use Rattle.pattern_search.specs.Answers.{searched}
 use Rattle.pattern_search.proofs.call.run.Goals as goal
 
-pub loop-a-init : goal.loop-a-init
-loop-a-init c = (refl, c.requires.0, omega arith, λ i l. absurd (omega arith))
+pub loop-reply-init : goal.loop-reply-init
+loop-reply-init c = (refl, c.requires.0, omega arith, λ i l. absurd (omega arith))
 
 pub overflow_sub-allowance : goal.overflow_sub-allowance
-overflow_sub-allowance c = omega (arith, c.loop-a.invariant.2)
+overflow_sub-allowance c = omega (arith, c.loop-reply.invariant.2)
 
 pub validate_stars-k-requires : goal.validate_stars-k-requires
 validate_stars-k-requires c = c.requires.1
 
-pub iterate-u-requires : goal.iterate-u-requires
-iterate-u-requires c = (c.loop-a.invariant.1, subst (λ (k : ValidStars). ValidBelow c.args.stars.now k.valid) (sym c.validate_stars-k.ensures) (known_below _ _ _ c.loop-a.invariant.3))
+pub iterate-requires : goal.iterate-requires
+iterate-requires c = (c.loop-reply.invariant.1, subst (λ (k : ValidStars). ValidBelow c.args.stars.now k.valid) (sym c.validate_stars-k.ensures) (known_below _ _ _ c.loop-reply.invariant.3))
 
-pub loop-a-smaller : goal.loop-a-smaller
-loop-a-smaller c = let t = rw c.if-u.true at c.iterate-u.ensures in omega (arith, t.0)
+pub loop-reply-smaller : goal.loop-reply-smaller
+loop-reply-smaller c = let t = c.in-Goes.ensures in omega (arith, t.0)
 
-pub loop-a-preserved : goal.loop-a-preserved
-loop-a-preserved c =
-    let t = rw c.if-u.true at c.iterate-u.ensures in
-    let i = c.loop-a.invariant in
+pub loop-reply-preserved : goal.loop-reply-preserved
+loop-reply-preserved c =
+    let t = c.in-Goes.ensures in
+    let i = c.loop-reply.invariant in
     (t.1 ∙ i.0, t.2, omega (arith, t.0, i.2), subst (λ (k : ValidStars). ValidBelow c.args.stars.now k.valid) (sym c.validate_stars-k.ensures) (known_below _ _ _ i.3))
 
-pub returns-else-u : goal.returns-else-u
-returns-else-u c = (rw c.if-u.false at c.iterate-u.ensures) ∙ ap searched c.loop-a.invariant.0
+pub returns-in-Over : goal.returns-in-Over
+returns-in-Over c = c.in-Over.ensures ∙ ap searched c.loop-reply.invariant.0

@@ -5,7 +5,7 @@ use Rattle.undivided_run.specs.CallInvariant.{continuing}
 use Rattle.search_feed.specs.Data.{frame_of, data_of}
 use Rattle.search_feed.specs.Feed.{feed}
 use Rattle.pattern_search.specs.Answers.{searched}
-use Rattle.pattern_search.proofs.Iterating.{here_of, load_ready, room_of, at_read, reply_used, iterate_stop}
+use Rattle.pattern_search.proofs.Iterating.{here_of, load_ready, room_of, at_read, reply_used}
 use Rattle.pattern_search.proofs.SkippedReads.{skip_reads_passes, after_skip_ready, iterated_from}
 use Rattle.pattern_search.proofs.reading.skip_then_read.Goals as goal
 
@@ -34,7 +34,7 @@ returns-then-s-eq0 c =
     let l = c.load-current.ensures in
     let t = (skip_reads_passes D c.args.cursor c.args.p _ _ _ _ _ _ _ _ c.requires.0 c.requires.1 l.0 l.1 c.args.allowance _ c.skip_reads-s.ensures) in
     let v = c.after_skip-on.ensures in
-    iterate_stop D c.args.st c.args.allowance c.args.cursor _ (reply_used D c.args.st _ _ _ c.state.ensures _ (ap (λ x. x.next) v ∙ t.at) c.if-s-eq0.true _ c.plain-reply.ensures ∙ ap searched (ap (continuing (feed D) c.args.config.cap c.args.st _) v ∙ t.same c.args.st)) _ _ _ _ _ _ c.stop.ensures
+    reply_used D c.args.st _ _ _ c.state.ensures _ (ap (λ x. x.next) v ∙ t.at) c.if-s-eq0.true ∙ ap searched (ap (continuing (feed D) c.args.config.cap c.args.st _) v ∙ t.same c.args.st)
 
 pub single_read-requires : goal.single_read-requires
 single_read-requires c =

@@ -1,25 +1,13 @@
 -- `preprocess::brightness_list::all_below` meets its contract. Assumes nothing.
-use mathlib.Core.Path.{◌∙◌, refl, sym}
-use native.Mathlib.Omega.{arith}
-use borrow.Author.Tests.{lt-ltb, le-ltb}
-use Rattle.preprocess.proofs.BrightnessList.{below_step, below_end}
+use mathlib.Core.Path.{◌∙◌}
+use lib.Dec.{ltb}
+use Rattle.std.proofs.Common.{rules, tests}
+use Rattle.std.proofs.lemmas.Iterator.{YieldsList-from_slice}
+use Rattle.std.proofs.lemmas.Iterator.Search.{all_from_yields_List}
+use Rattle.preprocess.proofs.BrightnessList.{all_below_is}
 use Rattle.preprocess.proofs.brightness_list.all_below.Goals as goal
 
-pub loop-i-init : goal.loop-i-init
-loop-i-init c = (omega arith, refl)
-
-pub overflow_cast-order : goal.overflow_cast-order
-overflow_cast-order c = omega (arith, c.shared_slice_known-1.given c.loop-i.i)
-
-pub returns-then-order-i : goal.returns-then-order-i
-returns-then-order-i c =
-    let l = c.loop-i in
-    sym (l.invariant.1 ∙ (rw (below_step _ l.i _ c.loop-i-test.true, le-ltb _ _ c.if-order-i.true)))
-
-pub loop-i-preserved : goal.loop-i-preserved
-loop-i-preserved c =
-    let l = c.loop-i in
-    (omega arith, l.invariant.1 ∙ (rw (below_step _ l.i _ c.loop-i-test.true, lt-ltb _ _ c.if-order-i.false)))
-
 pub returns : goal.returns
-returns c = let l = c.loop-i in sym (l.invariant.1 ∙ below_end _ l.i _ c.loop-i-test.false)
+returns c =
+    all_from_yields_List (λ x. ltb x c.args.n) _ _ c.all.result c.all.ensures.ran (YieldsList-from_slice c.args.order.now cc) (λ x b q k. search (rules, tests))
+    ∙ all_below_is _ _

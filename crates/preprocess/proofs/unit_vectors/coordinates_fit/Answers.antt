@@ -1,26 +1,15 @@
 -- `preprocess::unit_vectors::coordinates_fit` meets its contract. Assumes nothing.
-use mathlib.Core.Path.{◌∙◌, refl, sym}
-use native.Mathlib.Omega.{arith}
-use Rattle.preprocess.proofs.Coordinates.{too_low, too_high, goes_on, coordinates_end}
+use mathlib.Core.Bool.{◌&&◌}
+use mathlib.Core.Path.{◌∙◌}
+use lib.Ieee.{le, neg}
+use Rattle.std.proofs.Common.{rules, tests}
+use Rattle.std.proofs.lemmas.Iterator.{YieldsList-from_slice}
+use Rattle.std.proofs.lemmas.Iterator.Search.{all_from_yields_List}
+use Rattle.preprocess.specs.Questions.{farthest}
+use Rattle.preprocess.proofs.Coordinates.{coordinates_are}
 use Rattle.preprocess.proofs.unit_vectors.coordinates_fit.Goals as goal
 
-pub loop-i-init : goal.loop-i-init
-loop-i-init c = (omega arith, refl)
-
-pub returns-then-not-x : goal.returns-then-not-x
-returns-then-not-x c =
-    let l = c.loop-i in
-    sym (l.invariant.1 ∙ too_low _ l.i c.loop-i-test.true c.if-not-x.true-raw)
-
-pub returns-then-not-x-2 : goal.returns-then-not-x-2
-returns-then-not-x-2 c =
-    let l = c.loop-i in
-    sym (l.invariant.1 ∙ too_high _ l.i c.loop-i-test.true c.if-not-x.false-raw c.if-not-x-2.true-raw)
-
-pub loop-i-preserved : goal.loop-i-preserved
-loop-i-preserved c =
-    let l = c.loop-i in
-    (omega arith, l.invariant.1 ∙ goes_on _ l.i c.loop-i-test.true c.if-not-x.false-raw c.if-not-x-2.false-raw)
-
 pub returns : goal.returns
-returns c = let l = c.loop-i in sym (l.invariant.1 ∙ coordinates_end _ l.i c.loop-i-test.false)
+returns c =
+    all_from_yields_List (λ x. le (neg farthest) x && le x farthest) _ _ c.all.result c.all.ensures.ran (YieldsList-from_slice c.args.centroids.now cc) (λ x b q k. search (rules, tests))
+    ∙ coordinates_are _

@@ -1,8 +1,4 @@
-use mathlib.Core.Path.{ap}
-use Prim.Native.Nat.{ℕ, ◌+◌}
 use native.Mathlib.Omega.{arith}
-use lib.ListN.{get_or}
-use lib.Ieee.{nan}
 use Rattle.search_cache.proofs.AnglePlaces.{place_inside}
 use Rattle.search_cache.proofs.angles.cached_at.Goals as goal
 
@@ -14,6 +10,3 @@ offset_bounds-geometry-row c = record { fits = omega (arith, c.row.ensures, plac
 
 pub bounds-geometry-row : goal.bounds-geometry-row
 bounds-geometry-row c = omega (arith, c.row.ensures, place_inside c.args.i c.args.j c.requires.0 c.requires.1)
-
-pub returns : goal.returns
-returns c = ap (λ (x : ℕ). get_or c.args.geometry.now (x + c.args.i) nan) c.row.ensures

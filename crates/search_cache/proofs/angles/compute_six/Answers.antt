@@ -13,8 +13,8 @@ keep-requires c =
     let r = c.requires.0 in
     let q = c.args.q in
     let m = c.args.geometry.now in
-    let six = six_are m q r c.requires.1 _ _ _ c.four_at-v.ensures c.requires.3 c.edge_angles-six.ensures in
-    let s0 = still_same m c.requires.2 in
+    let six = six_are m q r c.requires.1 _ _ _ c.four_at-v.ensures c.requires.2 c.edge_angles-six.ensures in
+    let s0 = still_same m c.told-geometry in
     asked_again m _ q.a q.b _ s0 (omega (arith, r.ab, r.bc, r.cd, r.dn)) (omega (arith, r.ab, r.bc, r.cd, r.dn)) (ap (λ (l : List Float). get_or l 0 nan) six)
 
 pub keep-requires-2 : goal.keep-requires-2
@@ -23,8 +23,8 @@ keep-requires-2 c =
     let r = c.requires.0 in
     let q = c.args.q in
     let m = c.args.geometry.now in
-    let six = six_are m q r c.requires.1 _ _ _ c.four_at-v.ensures c.requires.3 c.edge_angles-six.ensures in
-    let s0 = still_same m c.requires.2 in
+    let six = six_are m q r c.requires.1 _ _ _ c.four_at-v.ensures c.requires.2 c.edge_angles-six.ensures in
+    let s0 = still_same m c.told-geometry in
     let s1 = still_on m _ _ s0 c.keep.ensures in
     asked_again m _ q.a q.c _ s1 (omega (arith, r.ab, r.bc, r.cd, r.dn)) (omega (arith, r.ab, r.bc, r.cd, r.dn)) (ap (λ (l : List Float). get_or l 1 nan) six)
 
@@ -34,8 +34,8 @@ keep-requires-3 c =
     let r = c.requires.0 in
     let q = c.args.q in
     let m = c.args.geometry.now in
-    let six = six_are m q r c.requires.1 _ _ _ c.four_at-v.ensures c.requires.3 c.edge_angles-six.ensures in
-    let s0 = still_same m c.requires.2 in
+    let six = six_are m q r c.requires.1 _ _ _ c.four_at-v.ensures c.requires.2 c.edge_angles-six.ensures in
+    let s0 = still_same m c.told-geometry in
     let s1 = still_on m _ _ s0 c.keep.ensures in
     let s2 = still_on m _ _ s1 c.keep-2.ensures in
     asked_again m _ q.a q.d _ s2 (omega (arith, r.ab, r.bc, r.cd, r.dn)) (omega (arith, r.ab, r.bc, r.cd, r.dn)) (ap (λ (l : List Float). get_or l 2 nan) six)
@@ -46,8 +46,8 @@ keep-requires-4 c =
     let r = c.requires.0 in
     let q = c.args.q in
     let m = c.args.geometry.now in
-    let six = six_are m q r c.requires.1 _ _ _ c.four_at-v.ensures c.requires.3 c.edge_angles-six.ensures in
-    let s0 = still_same m c.requires.2 in
+    let six = six_are m q r c.requires.1 _ _ _ c.four_at-v.ensures c.requires.2 c.edge_angles-six.ensures in
+    let s0 = still_same m c.told-geometry in
     let s1 = still_on m _ _ s0 c.keep.ensures in
     let s2 = still_on m _ _ s1 c.keep-2.ensures in
     let s3 = still_on m _ _ s2 c.keep-3.ensures in
@@ -59,8 +59,8 @@ keep-requires-5 c =
     let r = c.requires.0 in
     let q = c.args.q in
     let m = c.args.geometry.now in
-    let six = six_are m q r c.requires.1 _ _ _ c.four_at-v.ensures c.requires.3 c.edge_angles-six.ensures in
-    let s0 = still_same m c.requires.2 in
+    let six = six_are m q r c.requires.1 _ _ _ c.four_at-v.ensures c.requires.2 c.edge_angles-six.ensures in
+    let s0 = still_same m c.told-geometry in
     let s1 = still_on m _ _ s0 c.keep.ensures in
     let s2 = still_on m _ _ s1 c.keep-2.ensures in
     let s3 = still_on m _ _ s2 c.keep-3.ensures in
@@ -73,8 +73,8 @@ keep-requires-6 c =
     let r = c.requires.0 in
     let q = c.args.q in
     let m = c.args.geometry.now in
-    let six = six_are m q r c.requires.1 _ _ _ c.four_at-v.ensures c.requires.3 c.edge_angles-six.ensures in
-    let s0 = still_same m c.requires.2 in
+    let six = six_are m q r c.requires.1 _ _ _ c.four_at-v.ensures c.requires.2 c.edge_angles-six.ensures in
+    let s0 = still_same m c.told-geometry in
     let s1 = still_on m _ _ s0 c.keep.ensures in
     let s2 = still_on m _ _ s1 c.keep-2.ensures in
     let s3 = still_on m _ _ s2 c.keep-3.ensures in
@@ -85,11 +85,11 @@ keep-requires-6 c =
 pub returns : goal.returns
 returns c =
     let m = c.args.geometry.now in
-    let s0 = still_same m c.requires.2 in
+    let s0 = still_same m c.told-geometry in
     let s1 = still_on m _ _ s0 c.keep.ensures in
     let s2 = still_on m _ _ s1 c.keep-2.ensures in
     let s3 = still_on m _ _ s2 c.keep-3.ensures in
     let s4 = still_on m _ _ s3 c.keep-4.ensures in
     let s5 = still_on m _ _ s4 c.keep-5.ensures in
     let s6 = still_on m _ _ s5 c.keep-6.ensures in
-    record { six = six_are m c.args.q c.requires.0 c.requires.1 _ _ _ c.four_at-v.ensures c.requires.3 c.edge_angles-six.ensures; directions = s6 }
+    record { six = six_are m c.args.q c.requires.0 c.requires.1 _ _ _ c.four_at-v.ensures c.requires.2 c.edge_angles-six.ensures; directions = s6 }

@@ -13,4 +13,4 @@ pub bounds-geometry-at : goal.bounds-geometry-at
 bounds-geometry-at c = omega (arith, c.row.ensures, place_inside c.args.i c.args.j c.requires.0 c.requires.1)
 
 pub returns : goal.returns
-returns c = rw c.row.ensures (still_stored c.args.geometry.now c.args.i c.args.j c.args.w c.requires.0 c.requires.1 c.requires.2 c.requires.3)
+returns c = rw c.row.ensures (still_stored c.args.geometry.now c.args.i c.args.j c.args.w c.requires.0 c.requires.1 c.told-geometry c.requires.2)

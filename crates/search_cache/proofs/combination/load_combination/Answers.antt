@@ -1,18 +1,20 @@
-use mathlib.Core.Path.{refl, sym, ap, ◌∙◌}
+use mathlib.Core.Path.{◌≡◌, refl, sym, ap, ◌∙◌}
+use borrow.Author.Rules.{rules}
 use Rattle.search_cache.specs.AngleArray.{four_at}
 use Rattle.search_cache.proofs.AngleArray.{cached_fewer, still_same}
 use Rattle.search_feed.specs.Image.{image_of}
 use Rattle.search_feed.proofs.KeptSpots.{image_ratios_of}
 use Rattle.search_cache.specs.CombinationKeys.{image_from}
-use Rattle.search_cache.proofs.LoadCombination.{same_is, four_again, four_prepared, rises_wider, angles_show}
+use Rattle.search_cache.proofs.LoadCombination.{four_again, four_prepared, rises_wider, angles_show}
 use Rattle.search_cache.proofs.combination.load_combination.Goals as goal
 
-pub returns-then-same_combination : goal.returns-then-same_combination
-returns-then-same_combination c =
-    record { loaded = λ F e d v. four_again F _ _ _ d c.if-cached.true (same_is _ _ (sym c.same_combination.ensures ∙ c.if-same_combination.true)); rest = (refl, refl, refl, c.requires.5, still_same _ c.requires.4) }
+pub returns-then-eq : goal.returns-then-eq
+returns-then-eq c =
+    let h : c.args.cached.four ≡ c.args.four = search rules in
+    record { loaded = λ F e d v. four_again F _ _ _ d c.if-cached.true h; rest = (refl, refl, refl, c.requires.5, still_same _ c.requires.4) }
 
 pub six_angles-angles-requires : goal.six_angles-angles-requires
-six_angles-angles-requires c = (rises_wider _ 64 c.args.four c.requires.2.few c.requires.1, cached_fewer _ _ _ c.requires.1.dn c.requires.2, c.requires.4)
+six_angles-angles-requires c = (rises_wider _ 64 c.args.four c.requires.2.few c.requires.1, cached_fewer _ _ _ c.requires.1.dn c.requires.2)
 
 pub prepare-ready-requires : goal.prepare-ready-requires
 prepare-ready-requires c =

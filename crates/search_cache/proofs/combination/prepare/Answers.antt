@@ -11,7 +11,7 @@ max_error-e-requires c = (fitting c.args.config c.requires.0).narrow.few_bins
 pub key_hashes-n-requires : goal.key_hashes-n-requires
 key_hashes-n-requires c =
     let t = tolerance_narrow c.args.config c.requires.0 in
-    (rw c.image_of-image.ensures c.requires.1, rw c.max_error-e.ensures t, c.requires.2)
+    (rw c.image_of-image.ensures c.requires.1, rw c.max_error-e.ensures t)
 
 pub overflow_cast-result : goal.overflow_cast-result
 overflow_cast-result c =

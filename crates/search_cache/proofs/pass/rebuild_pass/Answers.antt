@@ -8,12 +8,12 @@ use Rattle.search_cache.proofs.pass.rebuild_pass.Goals as goal
 pub thin-kept-requires : goal.thin-kept-requires
 thin-kept-requires c =
     let q = c.requires.0 in
-    (q.three, places_at_most_256 _ _ q.one q.three, (fitting c.args.config q.four).few_stars, c.requires.1, c.no_directions-dirs.ensures)
+    (q.three, places_at_most_256 _ _ q.one q.three, (fitting c.args.config q.four).few_stars)
 
 pub load-requires : goal.load-requires
 load-requires c =
     let k = c.thin-kept.ensures in
-    (omega (arith, kept_most _ _ _ _ _ _ _ k, (fitting c.args.config c.requires.0.four).few_stars), k.dirs_long, c.requires.2)
+    omega (arith, kept_most _ _ _ _ _ _ _ k, (fitting c.args.config c.requires.0.four).few_stars)
 
 pub returns : goal.returns
 returns c =

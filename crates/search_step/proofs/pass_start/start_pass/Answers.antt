@@ -10,8 +10,8 @@ returns-then-slots-eq0 c = start_pass_no_slot _ _ _ c.if-kept-lt4.false c.if-slo
 pub returns-then-patterns-eq0 : goal.returns-then-patterns-eq0
 returns-then-patterns-eq0 c = start_pass_no_pattern _ _ _ c.if-kept-lt4.false c.if-slots-eq0.false c.if-patterns-eq0.true
 
-pub returns-in-Next : goal.returns-in-Next
-returns-in-Next c = start_pass_open _ _ _ c.if-kept-lt4.false c.if-slots-eq0.false c.if-patterns-eq0.false _ c.first_combination.ensures _ c.in-Next.is
+pub returns-in-Some : goal.returns-in-Some
+returns-in-Some c = start_pass_open _ _ _ c.if-kept-lt4.false c.if-slots-eq0.false c.if-patterns-eq0.false _ c.first_combination.ensures _ c.in-Some.is
 
-pub returns-in-Nothing : goal.returns-in-Nothing
-returns-in-Nothing c = start_pass_none _ _ _ c.if-kept-lt4.false c.if-slots-eq0.false c.if-patterns-eq0.false _ c.first_combination.ensures c.in-Nothing.is
+pub returns-in-None : goal.returns-in-None
+returns-in-None c = start_pass_none _ _ _ c.if-kept-lt4.false c.if-slots-eq0.false c.if-patterns-eq0.false _ c.first_combination.ensures c.in-None.is

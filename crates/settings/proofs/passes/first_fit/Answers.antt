@@ -1,21 +1,15 @@
-use mathlib.Core.Path.{◌≡◌, refl, sym, ap, ◌∙◌, subst}
-use mathlib.Core.Bool.{true}
+use Prim.Native.Nat.{ℕ}
+use mathlib.Core.Path.{refl, ◌∙◌}
 use native.Mathlib.Omega.{arith}
-use native.Mathlib.Numerals.{add-one}
-use borrow.Author.Tests.{not-true, not-false}
-use Rattle.settings.specs.Passes.{pass_fits, first_fit}
-use Rattle.settings.proofs.PassLimits.{first_fails, first_more}
+use Rattle.std.proofs.Common.{rules, tests}
+use Rattle.std.proofs.lemmas.Iterator.{YieldsList-from_range}
+use Rattle.std.proofs.lemmas.Iterator.Search.{all_from_yields_List}
+use Rattle.settings.specs.Passes.{pass_at, pass_fits}
+use Rattle.settings.proofs.PassLimits.{first_is}
 use Rattle.settings.proofs.passes.first_fit.Goals as goal
 
-pub loop-i-init : goal.loop-i-init
-unfolding first_fit
-loop-i-init c = (omega arith, refl)
-
-pub returns-then-not-fits : goal.returns-then-not-fits
-returns-then-not-fits c = first_fails _ _ _ c.loop-i.invariant.1 (ap pass_fits (sym c.pass_at.ensures) ∙ sym c.fits.ensures ∙ not-true _ c.if-not-fits.true-raw) c.loop-i-test.true
-
-pub loop-i-preserved : goal.loop-i-preserved
-loop-i-preserved c = (omega arith, rw add-one (first_more _ _ c.loop-i.invariant.1 (ap pass_fits (sym c.pass_at.ensures) ∙ sym c.fits.ensures ∙ not-false _ c.if-not-fits.false-raw)))
-
 pub returns : goal.returns
-returns c = let e : c.loop-i.i ≡ c.args.n = omega arith in sym (subst (λ k. first_fit c.args.passes.now k ≡ true) e c.loop-i.invariant.1)
+returns c =
+    let a = c.args in
+    all_from_yields_List (λ (i : ℕ). pass_fits (pass_at a.passes.now i)) _ _ c.all.result c.all.ensures.ran (YieldsList-from_range 0 a.n a.n refl (omega arith)) (λ x b q k. search (rules, tests))
+    ∙ first_is a.passes.now a.n

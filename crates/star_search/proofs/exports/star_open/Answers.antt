@@ -1,10 +1,9 @@
-use mathlib.Core.Path.{sym, ap, ◌∙◌}
-use Rattle.opening_check.specs.Answers.{opened_says}
+use mathlib.Core.Path.{ap, ◌∙◌}
 use Rattle.c_types.specs.Results.{opened_number}
 use Rattle.star_search.proofs.exports.star_open.Goals as goal
 
-pub returns-in-Passed : goal.returns-in-Passed
-returns-in-Passed c = ap opened_number (sym (ap opened_says c.in-Passed.is) ∙ c.open_check.ensures)
+pub returns-in-Ok : goal.returns-in-Ok
+returns-in-Ok c = ap opened_number c.in-Ok.ensures
 
-pub returns-in-Refused : goal.returns-in-Refused
-returns-in-Refused c = ap opened_number (sym (ap opened_says c.in-Refused.is) ∙ c.open_check.ensures)
+pub returns-in-Err : goal.returns-in-Err
+returns-in-Err c = c.from.ensures ∙ ap opened_number c.in-Err.ensures

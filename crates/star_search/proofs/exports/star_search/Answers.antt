@@ -5,10 +5,10 @@ pub returns : goal.returns
 returns c =
     let a = c.args in
     search_through a.centroids.now a.order.now a.passes.now a.stars.now a.settings a.slots a.words.now a.packed.now a.state a.allowance
-    c.config_from_c-config.result
-    c.config_from_c-config.ensures
-    c.state_from_c-from.result
-    c.state_from_c-from.ensures
+    c.from-config.result
+    c.from-config.ensures
+    c.from-from.result
+    c.from-from.ensures
     c.search-said.result
     c.search-said.ensures.returned
     c.answer_to_c.result

@@ -1,2 +1,0 @@
-pub mod FirstParts
-pub mod Untrue
