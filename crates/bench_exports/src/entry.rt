@@ -16,6 +16,7 @@ pub struct RawEntry {
 }
 
 // Returns the entry of a slot; all its numbers are zero where the slot is empty or the slot read is refused.
+// Kept: the numbers are taken over here and not by From, which would be called once.
 #[unsafe(no_mangle)]
 pub extern "C" fn catalog_entry(slots: u64, words: &[u64], packed: &[u8], slot: u64) -> RawEntry
     ensures { result ≡ raw_entry (section_part packed.now (slot_read slots words.now packed.now slot)) }

@@ -4,8 +4,7 @@ use Rattle.undivided_run.specs.declared.state.Position.{Position}
 use Rattle.undivided_run.specs.declared.state.State.{State}
 use Rattle.undivided_run.specs.declared.state.Phase.{Phase}
 use Rattle.undivided_run.specs.declared.state.Phase.TheVariants.{Fresh, At, Ended}
-use Rattle.undivided_run.specs.declared.state.Status.{Status}
-use Rattle.undivided_run.specs.declared.state.Status.TheVariants.{TooFew, NoMatch, Timeout}
+use Rattle.undivided_run.specs.StatusNumber.{status_number}
 use Rattle.candidates.specs.declared.entry_tests.Candidate.{Candidate}
 use Rattle.candidates.specs.StarVectors.{no_star}
 use Rattle.candidates.specs.NoCandidate.{no_candidate}
@@ -17,12 +16,6 @@ use Rattle.complete.specs.Question14.{place_at}
 use Rattle.c_types.specs.declared.structs.StarState.{StarState}
 use Rattle.c_types.specs.declared.structs.StarCandidate.{StarCandidate}
 use Rattle.c_types.specs.declared.structs.StarAnswer.{StarAnswer}
-
--- The number of a status: 0 for TooFew, 1 for NoMatch, 2 for Timeout.
-abbrev pub status_number : Status → ℕ
-status_number TooFew = 0
-status_number NoMatch = 1
-status_number Timeout = 2
 
 -- The numbers of a state that names no read. Those of the read are 0.
 abbrev pub plain_numbers : ℕ → ℕ → ℕ → ℕ → StarState

@@ -1,22 +1,11 @@
 // Turns what a search returns into the plain numbers that a host in C sees.
 ghost use Rattle.std.specs.Prelude.{◌≡◌};
-ghost use Rattle.c_types.specs.Answer.{status_number, plain_numbers, at_numbers, state_numbers, candidate_numbers, used_state, without_candidate, answer_of};
+ghost use Rattle.c_types.specs.Answer.{plain_numbers, at_numbers, state_numbers, candidate_numbers, used_state, without_candidate, answer_of};
 
 use crate::structs::{StarAnswer, StarCandidate, StarState};
 use candidates::entry_tests::{Candidate, no_candidate};
 use pattern_search::{Answer, Searched};
-use undivided_run::state::{Phase, Position, State, Status};
-
-// Returns the number of a status.
-fn status_number(s: Status) -> u32
-    ensures { result ≡ status_number s }
-{
-    match s {
-        Status::TooFew => 0,
-        Status::NoMatch => 1,
-        Status::Timeout => 2,
-    }
-}
+use undivided_run::state::{Phase, Position, State};
 
 // Returns a state that names no read, fresh or ended. The numbers of the read are 0.
 fn plain_numbers(phase: u32, status: u32, patterns: u64, reads: u64) -> StarState
@@ -61,7 +50,7 @@ impl From<State> for StarState {
         match s.phase {
             Phase::Fresh => plain_numbers(0, 0, s.patterns, s.reads),
             Phase::At(p) => at_numbers(p, s.patterns, s.reads),
-            Phase::Ended(t) => plain_numbers(2, status_number(t), s.patterns, s.reads),
+            Phase::Ended(t) => plain_numbers(2, u32::from(t), s.patterns, s.reads),
         }
     }
 }
@@ -117,7 +106,7 @@ pub fn answer_to_c(raw: StarState, allowance: u64, r: Searched) -> StarAnswer
             state,
         },
         Ok(Answer::AllowanceUsed) => { without_candidate(1, 0, used_state(allowance, raw, state)) }
-        Ok(Answer::Ended(t)) => without_candidate(2, status_number(t), state),
+        Ok(Answer::Ended(t)) => without_candidate(2, u32::from(t), state),
         Err(question) => without_candidate(3, u32::from(question), raw),
     }
 }

@@ -36,16 +36,13 @@ fn unknown_state() -> State
 fn ended_of(status: u32, patterns: u64, reads: u64) -> State
     ensures { result ≡ ended_of status patterns reads }
 {
-    let how = match status {
-        0 => Status::TooFew,
-        1 => Status::NoMatch,
-        2 => Status::Timeout,
-        _ => return unknown_state(),
-    };
-    State {
-        phase: Phase::Ended(how),
-        patterns,
-        reads,
+    match Status::try_from(status) {
+        Ok(how) => State {
+            phase: Phase::Ended(how),
+            patterns,
+            reads,
+        },
+        Err(_) => unknown_state(),
     }
 }
 

@@ -1,8 +1,7 @@
 pub mod ValidStars
 pub mod SlotPeek
 pub mod ProbeChain
-pub mod SkipReads
-pub mod FilledHomes
+pub mod FilledKeys
 pub mod SkipStep
 pub mod Skippable
 pub mod SkippedReads

@@ -25,12 +25,13 @@ use Rattle.search_feed.specs.Data.{Data}
 use Rattle.search_feed.specs.Feed.{feed, slot_at, entry_at, tested_at, if_hit, hash_of_read}
 use Rattle.fast_path.specs.SlotPeek.{is_valid_mismatch, peek_of}
 use Rattle.fast_path.specs.ProbeChain.{along_chain, along_chain_by, peek_at}
-use Rattle.fast_path.specs.SkipReads.{along_key, skipped_reads}
+use Rattle.fast_path.specs.SkipReads.{after_chain, along_key, skipped_reads}
 use Rattle.undivided_run.specs.Moves.{at_key}
 use Rattle.fast_path.specs.Skippable.{Skippable, Leads}
 use Rattle.fast_path.specs.declared.probe_chain.SlotPeek.{SlotPeek}
 use Rattle.fast_path.specs.declared.probe_chain.SlotPeek.TheVariants.{Empty, Passed, Stop}
 use Rattle.fast_path.specs.declared.probe_chain.ChainResult.{ChainResult}
+use Rattle.fast_path.specs.declared.probe_chain.ChainResult.TheVariants.{Over, Stops}
 use Rattle.fast_path.specs.declared.skip_reads.SkipResult.{SkipResult}
 use Rattle.fast_path.proofs.Skippable.{skippable_cat, not_counted, leads_nowhere, leads_then, skippable_one}
 
@@ -89,19 +90,19 @@ module _ (D : Data) (p : Position) (k : ℕ) where
 
   -- Where a chain isn't over, its reads lead to the read at a probe of it. Where it is over, they lead to its last read, and with that one past
   -- the chain.
-  abbrev pub ChainLeads : Bool → ℕ → ℕ → ChainResult → Type 0
-  ChainLeads false a c s = Leads F (at c) a s.left (at s.probe)
-  ChainLeads true a c s =
-      Leads F (at c) a (suc s.left) (at s.probe)
-      × (s.left < a)
-      × ((cap : Cap) (n : ℕ) → Skippable F cap (a - s.left) (goes (at c)) n (after_key F cap p.pass p.four k (count_tried (at c) n)) (count_tried (at c) n))
+  abbrev pub ChainLeads : ℕ → ℕ → ChainResult → Type 0
+  ChainLeads a c (Stops q l) = Leads F (at c) a l (at q)
+  ChainLeads a c (Over q l) =
+      Leads F (at c) a (suc l) (at q)
+      × (l < a)
+      × ((cap : Cap) (n : ℕ) → Skippable F cap (a - l) (goes (at c)) n (after_key F cap p.pass p.four k (count_tried (at c) n)) (count_tried (at c) n))
 
   not_first : (c : ℕ) → starts (at (suc c)) ≡ false
   unfolding starts is_zero
   not_first c = refl
 
   -- The last read of a chain.
-  last : (a c : ℕ) → (b : Bool) → SkippableAt D (at c) b → ((cap : Cap) (n : ℕ) → next_read F cap (at c) n ≡ after_key F cap p.pass p.four k n) → ChainLeads true (suc a) c (record { over = true; probe = c; left = a })
+  last : (a c : ℕ) → (b : Bool) → SkippableAt D (at c) b → ((cap : Cap) (n : ℕ) → next_read F cap (at c) n ≡ after_key F cap p.pass p.four k n) → ChainLeads (suc a) c (Over c a)
   last a c b q e =
       let z : suc a - a ≡ 1 = omega arith in
       (leads_nowhere F (at c) (suc a), omega arith, λ cap n. rw z (skippable_one F cap (at c) n _ q.1 q.2 (e cap (count_tried (at c) n))))
@@ -114,14 +115,14 @@ module _ (D : Data) (p : Position) (k : ℕ) where
         let z : suc a - a ≡ 1 = omega arith in
         rw z (skippable_one F cap (at c) n _ q.1 q.2 (probe_more F cap (count_tried (at c) n) (at c) true (sym q.0) refl (omega arith)))
 
-    one_then : (b : Bool) (s : ChainResult) → ChainLeads b a (suc c) s → ChainLeads b (suc a) c s
-    one_then false s w = leads_then F (at c) (at (suc c)) (at s.probe) a (not_first c) (suc a) s.left (omega arith) one w
-    one_then true s w = (
-      leads_then F (at c) (at (suc c)) (at s.probe) a (not_first c) (suc a) (suc s.left) (omega arith) one w.0,
+    one_then : (s : ChainResult) → ChainLeads a (suc c) s → ChainLeads (suc a) c s
+    one_then (Stops q l) w = leads_then F (at c) (at (suc c)) (at q) a (not_first c) (suc a) l (omega arith) one w
+    one_then (Over q l) w = (
+      leads_then F (at c) (at (suc c)) (at q) a (not_first c) (suc a) (suc l) (omega arith) one w.0,
       omega (arith, w.1),
       λ cap n.
-          skippable_cat F cap (suc a - a) (a - s.left) (suc a - s.left) (goes (at c)) (goes (at (suc c))) _ n (count_tried (at c) n) _ (omega (arith, w.1)) (one cap n)
-          (subst (λ m. Skippable F cap (a - s.left) (goes (at (suc c))) (count_tried (at c) n) (after_key F cap p.pass p.four k m) m) (not_counted (at (suc c)) (count_tried (at c) n) (not_first c)) (w.2 cap (count_tried (at c) n))),
+          skippable_cat F cap (suc a - a) (a - l) (suc a - l) (goes (at c)) (goes (at (suc c))) _ n (count_tried (at c) n) _ (omega (arith, w.1)) (one cap n)
+          (subst (λ m. Skippable F cap (a - l) (goes (at (suc c))) (count_tried (at c) n) (after_key F cap p.pass p.four k m) m) (not_counted (at (suc c)) (count_tried (at c) n) (not_first c)) (w.2 cap (count_tried (at c) n))),
     )
 
   at_end : (cap : Cap) (n c : ℕ) → SkippableAt D (at c) true → D.slots ≤ suc c → next_read F cap (at c) n ≡ after_key F cap p.pass p.four k n
@@ -139,16 +140,16 @@ module _ (D : Data) (p : Position) (k : ℕ) where
     unfolding slot_at
     peek_at_probe_is c = rw he
 
-    pub along_skippable : (a c : ℕ) → c < D.slots → ChainLeads (along a c).over a c (along a c)
+    pub along_skippable : (a c : ℕ) → c < D.slots → ChainLeads a c (along a c)
     unfolding along_chain
     along_skippable zero c h = leads_nowhere F (at c) 0
     along_skippable (suc a) c h = by (peek_at_probe c) refl (along_skippable a (suc c))
       where
-        two : SkippableAt D (at c) true → (suc c < D.slots → ChainLeads (along a (suc c)).over a (suc c) (along a (suc c))) → (b : Bool) → ltb (suc c) D.slots ≡ b → let s = cond b (along a (suc c)) (record { over = true; probe = c; left = a }) in ChainLeads s.over (suc a) c s
-        two q ih true e = let l = ltb-true (suc c) D.slots e in one_then a c q l (along a (suc c)).over (along a (suc c)) (ih l)
+        two : SkippableAt D (at c) true → (suc c < D.slots → ChainLeads a (suc c) (along a (suc c))) → (b : Bool) → ltb (suc c) D.slots ≡ b → ChainLeads (suc a) c (cond b (along a (suc c)) (Over c a))
+        two q ih true e = let l = ltb-true (suc c) D.slots e in one_then a c q l (along a (suc c)) (ih l)
         two q ih false e = last a c true q (λ cap n. at_end cap n c q (ltb-false (suc c) D.slots e))
 
-        by : (g : SlotPeek) → peek_at_probe c ≡ g → (suc c < D.slots → ChainLeads (along a (suc c)).over a (suc c) (along a (suc c))) → let s = along_chain_by D.words D.packed D.stars D.slots (home_of hash D.slots) (mark_of hash) g a c (along a (suc c)) in ChainLeads s.over (suc a) c s
+        by : (g : SlotPeek) → peek_at_probe c ≡ g → (suc c < D.slots → ChainLeads a (suc c) (along a (suc c))) → ChainLeads (suc a) c (along_chain_by D.words D.packed D.stars D.slots (home_of hash D.slots) (mark_of hash) g a c (along a (suc c)))
         by Empty e ih = let q = empty_skippable D (at c) (sym (peek_at_probe_is c) ∙ e) in last a c false q (λ cap n. probe_empty F cap n (at c) false (sym q.0) refl)
         by Stop e ih = leads_nowhere F (at c) (suc a)
         by (Passed n) e ih = two (passed_skippable D (at c) n (sym (peek_at_probe_is c) ∙ e)) ih (ltb (suc c) D.slots) refl
@@ -174,15 +175,15 @@ module _ (D : Data) (p : Position) (hashes : List ℕ) (keys : ℕ) (ke : keys �
 
   pub skipped_reads_leads : (more k c a : ℕ) → k + suc more ≡ keys → c < D.slots → SkipsReads k c a (skipped more k c a)
   unfolding skipped_reads
-  skipped_reads_leads zero k c a h l = by (found k a c).over (along_skippable D p k (get_or hashes k 0) (he k (omega arith)) a c l)
+  skipped_reads_leads zero k c a h l = by (found k a c) (along_skippable D p k (get_or hashes k 0) (he k (omega arith)) a c l)
     where
-      by : (b : Bool) → ChainLeads D p k b a c (found k a c) → SkipsReads k c a (cond b (record { key = k; probe = (found k a c).probe; left = suc (found k a c).left }) (record { key = k; probe = (found k a c).probe; left = (found k a c).left }))
-      by true w = w.0
-      by false w = w
-  skipped_reads_leads (suc more) k c a h l = by (found k a c).over (along_skippable D p k (get_or hashes k 0) (he k (omega arith)) a c l) (skipped_reads_leads more (suc k) 0 (found k a c).left (omega arith) (omega arith))
+      by : (s : ChainResult) → ChainLeads D p k a c s → SkipsReads k c a (after_chain k (λ probe left. record { key = k; probe = probe; left = suc left }) s)
+      by (Over q b) w = w.0
+      by (Stops q b) w = w
+  skipped_reads_leads (suc more) k c a h l = by (found k a c) (along_skippable D p k (get_or hashes k 0) (he k (omega arith)) a c l) (λ b. skipped_reads_leads more (suc k) 0 b (omega arith) (omega arith))
     where
-      by : (b : Bool) → ChainLeads D p k b a c (found k a c) → SkipsReads (suc k) 0 (found k a c).left (skipped more (suc k) 0 (found k a c).left) → SkipsReads k c a (cond b (skipped more (suc k) 0 (found k a c).left) (record { key = k; probe = (found k a c).probe; left = (found k a c).left }))
-      by true w ih =
-          leads_then (feed D) (at_key p k c) (at_key p (suc k) 0) _ (found k a c).left (not_begun k) a _ w.1
-          (λ cap n. subst (λ (v : Next). Skippable (feed D) cap (a - (found k a c).left) (goes (at_key p k c)) n v (count_tried (at_key p k c) n)) (key_on k c (count_tried (at_key p k c) n) cap (omega arith)) (w.2 cap n)) ih
-      by false w ih = w
+      by : (s : ChainResult) → ChainLeads D p k a c s → ((b : ℕ) → SkipsReads (suc k) 0 b (skipped more (suc k) 0 b)) → SkipsReads k c a (after_chain k (λ probe left. skipped more (suc k) 0 left) s)
+      by (Over q b) w ih =
+          leads_then (feed D) (at_key p k c) (at_key p (suc k) 0) _ b (not_begun k) a _ w.1
+          (λ cap n. subst (λ (v : Next). Skippable (feed D) cap (a - b) (goes (at_key p k c)) n v (count_tried (at_key p k c) n)) (key_on k c (count_tried (at_key p k c) n) cap (omega arith)) (w.2 cap n)) (ih b)
+      by (Stops q b) w ih = w

@@ -1,10 +1,17 @@
 -- How far the reads of a combination go, key after key, that give no candidate. Definitions only. That the entries passed over are valid and
 -- give no candidate, and that the reads lead to a read of the same combination, is proved in proofs/SkippedReads.
-use Rattle.std.specs.Prelude.{ℕ, zero, suc, cond, List, get_or, Float}
+use Rattle.std.specs.Prelude.{ℕ, zero, suc, List, get_or, Float}
 use Rattle.pattern.specs.Key.{home_of, mark_of}
 use Rattle.fast_path.specs.ProbeChain.{along_chain}
 use Rattle.fast_path.specs.declared.probe_chain.ChainResult.{ChainResult}
+use Rattle.fast_path.specs.declared.probe_chain.ChainResult.TheVariants.{Over, Stops}
 use Rattle.fast_path.specs.declared.skip_reads.SkipResult.{SkipResult}
+
+-- Where skipping ends by how far the reads went along the chain of key k. Where the chain is over, that is what `on` makes of its last probe and of
+-- what is left of the allowance.
+abbrev pub after_chain : ℕ → (ℕ → ℕ → SkipResult) → ChainResult → SkipResult
+after_chain k on (Over c a) = on c a
+after_chain k on (Stops c a) = record { key = k; probe = c; left = a }
 
 module _ (words packed : List ℕ) (stars : List Float) (slots : ℕ) where
   module _ (hashes : List ℕ) where
@@ -14,9 +21,5 @@ module _ (words packed : List ℕ) (stars : List Float) (slots : ℕ) where
 
     -- How far the reads go from key k and probe c on, with `more` keys after k and the allowance a. The last key's last read isn't made.
     unfoldable pub skipped_reads : ℕ → ℕ → ℕ → ℕ → SkipResult
-    skipped_reads zero k c a =
-        let s = along_key k a c in
-        cond s.over (record { key = k; probe = s.probe; left = suc s.left }) (record { key = k; probe = s.probe; left = s.left })
-    skipped_reads (suc more) k c a =
-        let s = along_key k a c in
-        cond s.over (skipped_reads more (suc k) 0 s.left) (record { key = k; probe = s.probe; left = s.left })
+    skipped_reads zero k c a = after_chain k (λ probe left. record { key = k; probe = probe; left = suc left }) (along_key k a c)
+    skipped_reads (suc more) k c a = after_chain k (λ probe left. skipped_reads more (suc k) 0 left) (along_key k a c)

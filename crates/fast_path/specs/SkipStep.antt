@@ -1,52 +1,47 @@
 -- What a step over many reads of a combination leaves behind. Definitions only.
-use Rattle.std.specs.Prelude.{◌≡◌, ℕ, zero, suc, ◌+◌, ◌-◌, ◌≤◌, ◌<◌, true, false, List, length, get_or, Float}
+use Rattle.std.specs.Prelude.{◌≡◌, ℕ, suc, ◌+◌, ◌-◌, ◌≤◌, ◌<◌, false, List, [], ◌∷◌, get_or}
+use Rattle.std.specs.declared.ops.ControlFlow.{ControlFlow}
+use Rattle.std.specs.declared.ops.ControlFlow.TheVariants.{Continue, Break}
 use Rattle.pattern.specs.Key.{home_of}
 use Rattle.pattern_catalog.specs.Blocks.{filled}
 use Rattle.fast_path.specs.SkipReads.{skipped_reads}
-use Rattle.fast_path.specs.declared.skip_reads.KeySkip.{KeySkip}
+use Rattle.fast_path.specs.declared.skip_reads.FilledKey.{FilledKey}
+use Rattle.fast_path.specs.declared.skip_reads.Reads.{Reads}
+use Rattle.fast_path.specs.declared.skip_reads.SkipResult.{SkipResult}
 
 -- The home slot of key q.
-abbrev pub home_at : ℕ → List ℕ → ℕ → ℕ
-home_at slots hashes q = home_of (get_or hashes q 0) slots
+abbrev pub home_at : Reads → ℕ → ℕ
+home_at r q = home_of (get_or r.hashes.now q 0) r.known.table.slots
 
 -- The keys from lo to before hi have empty home slots.
-abbrev pub EmptyHomes : List ℕ → ℕ → List ℕ → ℕ → ℕ → Type 0
-EmptyHomes words slots hashes lo hi = (q : ℕ) → lo ≤ q → q < hi → filled words (home_at slots hashes q) ≡ false
+abbrev pub EmptyHomes : Reads → ℕ → ℕ → Type 0
+EmptyHomes r lo hi = (q : ℕ) → lo ≤ q → q < hi → filled r.known.table.words.now (home_at r q) ≡ false
 
--- The key at which the j-th search for a filled home slot begins: lo, or the key after the one found before.
-unfoldable pub start : ℕ → List ℕ → ℕ → ℕ
-start lo keys zero = lo
-start lo keys (suc j) = suc (get_or keys j 0)
+-- The keys found are some of those from lo to before hi, in rising order, each with its home slot. Every other key from lo to before hi has an
+-- empty home slot.
+unfoldable pub FilledKeys : Reads → ℕ → ℕ → List FilledKey → Type 0
+FilledKeys r lo hi [] = (lo ≤ hi) × EmptyHomes r lo hi
+FilledKeys r lo hi (f ∷ found) =
+    (lo ≤ f.key) × (f.key < hi) × (f.home ≡ home_at r f.key) × EmptyHomes r lo f.key × FilledKeys r (suc f.key) hi found
 
--- The first m of `keys` are m of the keys from lo to before hi, in rising order, and the first m of `homes` are their home slots. Every other
--- key from lo to before hi has an empty home slot.
-pub record FilledHomes (words : List ℕ) (slots : ℕ) (hashes : List ℕ) (lo hi m : ℕ) (keys homes : List ℕ) : Type 0 where
-  -- There are no more of them than keys from lo to before hi.
-  pub few : lo + m ≤ hi
-  -- The keys rise: each one lies at or after the beginning of its search.
-  pub from : (j : ℕ) → j < m → start lo keys j ≤ get_or keys j 0
-  -- Each key is below hi.
-  pub below : (j : ℕ) → j < m → get_or keys j 0 < hi
-  -- Each home slot is that of its key.
-  pub home : (j : ℕ) → j < m → get_or homes j 0 ≡ home_at slots hashes (get_or keys j 0)
-  -- The keys passed in the search for each one have empty home slots.
-  pub between : (j : ℕ) → j < m → EmptyHomes words slots hashes (start lo keys j) (get_or keys j 0)
-  -- The search after the last one begins at or before hi.
-  pub last : start lo keys m ≤ hi
-  -- The keys after the last one have empty home slots.
-  pub after : EmptyHomes words slots hashes (start lo keys m) hi
-  pub keys_long : length keys ≡ 16
-  pub homes_long : length homes ≡ 16
+-- Where skipping ends from key k and probe c on, with the allowance a.
+abbrev pub skipped_from : Reads → ℕ → ℕ → ℕ → SkipResult
+skipped_from r k c a = skipped_reads r.known.table.words.now r.known.table.packed.now r.known.table.stars.now r.known.table.slots r.hashes.now (r.keys - (k + 1)) k c a
 
--- Where a step leads on to another key, the skipped reads from there end where those from key k and probe c end; where it leads no further,
--- it has reached that end.
-pub record SkipStep (words packed : List ℕ) (stars : List Float) (slots : ℕ) (hashes : List ℕ) (keys k c a : ℕ) (r : KeySkip) : Type 0 where
-  -- A step that leads on leads to a later key that exists, with no more of the allowance left than there was.
-  pub on :
-      r.on ≡ true
-      → (k < r.key)
-      × (r.key < keys)
-      × (r.left ≤ a)
-      × (skipped_reads words packed stars slots hashes (keys - (r.key + 1)) r.key 0 r.left ≡ skipped_reads words packed stars slots hashes (keys - (k + 1)) k c a)
-  -- A step that leads no further gives the key, probe and allowance at which the skipped reads end.
-  pub off : r.on ≡ false → record { key = r.key; probe = r.probe; left = r.left } ≡ skipped_reads words packed stars slots hashes (keys - (k + 1)) k c a
+-- Skipping from key k and probe c on with the allowance a ends where it does from the first probe of key q on, a later key that exists, with no
+-- more of the allowance left, namely b.
+pub record LeadsTo (r : Reads) (k c a q b : ℕ) : Type 0 where
+  pub later : k < q
+  pub exists : q < r.keys
+  pub fewer : b ≤ a
+  pub same : skipped_from r q 0 b ≡ skipped_from r k c a
+
+-- A step over reads from key k and probe c on leads to the first probe of another key, from which skipping goes on, or to where skipping ends.
+abbrev pub SkipStep : Reads → ℕ → ℕ → ℕ → ControlFlow SkipResult (ℕ × ℕ) → Type 0
+SkipStep r k c a (Continue n) = LeadsTo r k c a n.0 n.1
+SkipStep r k c a (Break e) = e ≡ skipped_from r k c a
+
+-- The same of a step over the reads of key k alone, which leads to the next key.
+abbrev pub KeyStep : Reads → ℕ → ℕ → ℕ → ControlFlow SkipResult ℕ → Type 0
+KeyStep r k c a (Continue b) = LeadsTo r k c a (k + 1) b
+KeyStep r k c a (Break e) = e ≡ skipped_from r k c a

@@ -8,6 +8,17 @@ ghost use Rattle.fast_path.specs.ValidStars.{ValidBelow};
 ghost use Rattle.fast_path.specs.SlotPeek.{is_valid_mismatch, peek_of, PassedInside};
 ghost use Rattle.fast_path.specs.ProbeChain.{along_chain};
 
+use search_feed::lent::Table;
+
+// A table that is whole, and the number below which every star of it is valid.
+#[derive(Clone, Copy)]
+pub struct KnownTable<'a> {
+    pub table: Table<'a>,
+    pub valid: u32,
+    ghost whole: { table_fits table.slots table.words.now ≡ true },
+    ghost below: { ValidBelow table.stars.now valid },
+}
+
 // What is seen at a slot.
 #[derive(Clone, Copy)]
 pub enum SlotPeek {
@@ -19,58 +30,46 @@ pub enum SlotPeek {
     Stop,
 }
 
-// How far the reads along a chain went.
+// How far the reads along a chain went, with what is left of the allowance.
 #[derive(Clone, Copy)]
-pub struct ChainResult {
-    // Set where the chain is over.
-    pub over: bool,
-    // The probe of the chain's last read where the chain is over, else that of the next read, which isn't made.
-    pub probe: u32,
-    // What is left of the allowance.
-    pub left: u64,
+pub enum ChainResult {
+    // The chain is over. The probe is that of its last read.
+    Over { probe: u32, left: u64 },
+    // The chain goes on. The probe is that of the next read, which isn't made.
+    Stops { probe: u32, left: u64 },
 }
 
-// Returns whether the entry at a place of the packed section is valid and has another mark. Every star below `valid` is known to be valid.
-fn is_valid_mismatch(packed: &[u8], stars: &[f32], valid: u32, mark: u16, place: u64) -> bool
-    requires { (place * 22 + 22 ≤ length packed.now) × ValidBelow stars.now valid }
-    ensures { result ≡ is_valid_mismatch stars.now mark (bytes_at packed.now place) }
+// Returns whether the entry at a place of the packed section is valid and has another mark.
+fn is_valid_mismatch(known: &KnownTable<'_>, mark: u16, place: u64) -> bool
+    requires { place * 22 + 22 ≤ length known.now.table.packed.now }
+    ensures { result ≡ is_valid_mismatch known.now.table.stars.now mark (bytes_at known.now.table.packed.now place) }
 {
-    if pattern_entry::entry::mark_at(packed, place) == mark {
+    if pattern_entry::entry::mark_at(known.table.packed, place) == mark {
         return false;
     }
-    if pattern_entry::validity::indices_below_at(packed, place, valid) {
+    if pattern_entry::validity::indices_below_at(known.table.packed, place, known.valid) {
         return true;
     }
-    pattern_entry::validity::entry_valid_at(stars, packed, place)
-}
-
-// Returns the three values as a struct.
-fn chain_at(over: bool, probe: u32, left: u64) -> ChainResult
-    ensures { result ≡ record { over = over; probe = probe; left = left } }
-{
-    ChainResult { over, probe, left }
+    pattern_entry::validity::entry_valid_at(known.table.stars, known.table.packed, place)
 }
 
 // Looks at a slot and returns what is seen there, with the place of its entry where that is passed over. Where slot `from` isn't past this
 // slot, `there` is the place of the entry of slot `from`, from which the place of this slot's entry can be counted on.
-fn peek_slot(
-    words: &[u64],
-    packed: &[u8],
-    stars: &[f32],
-    valid: u32,
-    mark: u16,
-    slot: u64,
-    from: u64,
-    there: u64,
-) -> SlotPeek
-    requires { (slot / 448 * 8 + 8 ≤ length words.now) × ValidBelow stars.now valid × PlaceKnown words.now (length packed.now / 22) slot from there }
-    ensures { (result ≡ peek_of words.now packed.now stars.now mark slot) × PassedInside packed.now result }
+fn peek_slot(known: &KnownTable<'_>, mark: u16, slot: u64, from: u64, there: u64) -> SlotPeek
+    requires { (slot / 448 * 8 + 8 ≤ length known.now.table.words.now) × PlaceKnown known.now.table.words.now (length known.now.table.packed.now / 22) slot from there }
+    ensures { (result ≡ peek_of known.now.table.words.now known.now.table.packed.now known.now.table.stars.now mark slot) × PassedInside known.now.table.packed.now result }
 {
-    match pattern_catalog::slot_read::find_near(words, packed, slot, from, there) {
+    match pattern_catalog::slot_read::find_near(
+        known.table.words,
+        known.table.packed,
+        slot,
+        from,
+        there,
+    ) {
         Ok(None) => SlotPeek::Empty,
         Err(_) => SlotPeek::Stop,
         Ok(Some(place)) => {
-            if is_valid_mismatch(packed, stars, valid, mark, place) {
+            if is_valid_mismatch(known, mark, place) {
                 return SlotPeek::Passed(place);
             }
             SlotPeek::Stop
@@ -80,38 +79,46 @@ fn peek_slot(
 
 // Goes along the chain with this home slot from probe `from` on, as long as its reads give no candidate and the allowance lasts.
 pub fn probe_chain(
-    words: &[u64],
-    packed: &[u8],
-    stars: &[f32],
-    valid: u32,
-    slots: u64,
+    known: &KnownTable<'_>,
     home: u64,
     mark: u16,
     from: u32,
     allowance: u64,
 ) -> ChainResult
-    requires { (home < slots) × (from < slots) × (table_fits slots words.now ≡ true) × ValidBelow stars.now valid }
-    ensures { result ≡ along_chain words.now packed.now stars.now slots home mark allowance from }
+    requires { (home < known.now.table.slots) × (from < known.now.table.slots) }
+    ensures { result ≡ along_chain known.now.table.words.now known.now.table.packed.now known.now.table.stars.now known.now.table.slots home mark allowance from }
 {
-    let mut c = from;
-    let mut a = allowance;
-    let mut last = slots;
+    // A copy of the struct: the loop would load its fields anew at each probe through the reference.
+    let known = *known;
+    // A chain has as many probes as there are slots.
+    let probes = known.table.slots;
+    let reads = allowance.min(probes - from as u64);
+    let end = from + reads as u32;
+    let mut last = known.table.slots;
     let mut there: u64 = 0;
-    while 0 < a {
-        let slot = undivided_run::probing::probe_slot(home, c, slots);
-        match peek_slot(words, packed, stars, valid, mark, slot, last, there) {
-            SlotPeek::Stop => return chain_at(false, c, a),
-            SlotPeek::Empty => return chain_at(true, c, a - 1),
+    for c in from..end {
+        let slot = undivided_run::probing::probe_slot(home, c, probes);
+        let left = allowance - (c - from) as u64;
+        match peek_slot(&known, mark, slot, last, there) {
+            SlotPeek::Stop => return ChainResult::Stops { probe: c, left },
+            SlotPeek::Empty => {
+                return ChainResult::Over {
+                    probe: c,
+                    left: left - 1,
+                };
+            }
             SlotPeek::Passed(place) => {
-                a -= 1;
-                if slots <= (c + 1) as u64 {
-                    return chain_at(true, c, a);
-                }
-                c += 1;
                 last = slot;
                 there = place;
             }
         }
     }
-    chain_at(false, c, a)
+    let left = allowance - reads;
+    if (end as u64) < probes {
+        return ChainResult::Stops { probe: end, left };
+    }
+    ChainResult::Over {
+        probe: end - 1,
+        left,
+    }
 }

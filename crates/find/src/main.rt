@@ -6,24 +6,28 @@ mod bundled;
 mod recorded;
 
 use crate::recorded::report_stream;
+use search_feed::lent::{Frame, Table};
 use search_report::report::{Data, table_line};
 use std::env::{Env, FillError};
 use std::fs::File;
 use undivided_run::state::State;
 
 // Searches a bundled frame and reports the search.
-fn report_bundled(rt: &impl Print, name: &str, coords: &[f32], places: &[u32]) {
+fn report_bundled(rt: &impl Print, name: &str, centroids: &[f32], order: &[u32]) {
     let _ = print!(rt; "{name}: ");
-    let data = Data {
+    let frame = Frame {
+        centroids,
+        order,
         config: bundled::CONFIG,
+        passes: &bundled::PASSES,
+    };
+    let table = Table {
         slots: bundled::SLOTS,
         words: &bundled::WORDS,
         packed: &bundled::PACKED,
         stars: &bundled::STARS,
-        coords,
-        places,
-        triples: &bundled::PASSES,
     };
+    let data = Data { frame, table };
     data.report_search(rt, State::fresh());
 }
 

@@ -9,14 +9,8 @@ use undivided_run::state::State;
 // Returns the data of a search that a stream has set so far.
 fn data_of(lent: &Lent) -> Data<'_> {
     Data {
-        config: lent.inputs.config,
-        slots: lent.inputs.table.slots,
-        words: lent.words(),
-        packed: lent.packed(),
-        stars: lent.stars(),
-        coords: lent.coords(),
-        places: lent.places(),
-        triples: lent.triples(),
+        frame: lent.frame(),
+        table: lent.table(),
     }
 }
 
@@ -40,7 +34,8 @@ fn report(rt: &impl Print, n: u64, request: Request, lent: &Lent) -> State {
             data.report_search(rt, state)
         }
         Request::Open => {
-            table_line(rt, data.slots, data.words, data.packed, data.stars);
+            let table = data.table;
+            table_line(rt, table.slots, table.words, table.packed, table.stars);
             state
         }
         _ => state,

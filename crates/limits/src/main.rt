@@ -4,6 +4,7 @@
 
 use pattern_search::{Answer, Searched};
 use search_feed::SearchConfig;
+use search_feed::lent::{Frame, Table};
 use settings::tolerance::Tolerance;
 use std::fmt;
 use undivided_run::state::{State, Status};
@@ -13,6 +14,7 @@ use undivided_run::state::{State, Status};
 struct Line(Searched);
 
 // Returns the name of a status.
+// Kept: replay has the same three names, but below the two are only crates that are burned in, where the oracle's words don't belong.
 fn name_of(status: Status) -> &'static str {
     match status {
         Status::TooFew => "toofew",
@@ -48,39 +50,22 @@ fn settings(cap: Option<u64>) -> SearchConfig {
     }
 }
 
-// What a call is lent beside its table: the centroids, the brightness list, the cap and the passes.
-#[derive(Clone, Copy)]
-struct Frame<'a> {
-    centroids: &'a [f32],
-    order: &'a [u32],
-    cap: Option<u64>,
-    passes: &'a [f32],
+// Makes a call with 100 reads from a fresh state over a table of these words, of whose slots none is filled, and writes the answer. A line
+// that can't be written is left out.
+fn call(rt: &impl Print, name: &str, frame: &Frame<'_>, slots: u64, words: &[u64]) {
+    let table = Table {
+        slots,
+        words,
+        packed: &[0; 22],
+        stars: &[0.0; 3],
+    };
+    let line = Line(pattern_search::search(frame, &table, State::fresh(), 100));
+    let _ = println!(rt; "{name}: {line}");
 }
 
-impl Frame<'_> {
-    // Makes a call with 100 reads from a fresh state over a table of these words, of whose slots none is filled, and writes the answer. A
-    // line that can't be written is left out.
-    fn call(&self, rt: &impl Print, name: &str, slots: u64, words: &[u64]) {
-        let searched = pattern_search::search(
-            self.centroids,
-            self.order,
-            settings(self.cap),
-            self.passes,
-            slots,
-            words,
-            &[0; 22],
-            &[0.0; 3],
-            State::fresh(),
-            100,
-        );
-        let line = Line(searched);
-        let _ = println!(rt; "{name}: {line}");
-    }
-
-    // Makes a call from a fresh state over a table of one empty slot, and writes the answer.
-    fn over_one_slot(&self, rt: &impl Print, name: &str) {
-        self.call(rt, name, 1, &[0; 8]);
-    }
+// Makes a call from a fresh state over a table of one empty slot, and writes the answer.
+fn over_one_slot(rt: &impl Print, name: &str, frame: &Frame<'_>) {
+    call(rt, name, frame, 1, &[0; 8]);
 }
 
 // A brightness list of four spots, in their order.
@@ -100,20 +85,20 @@ fn limits(rt: &impl Print) {
     let most = Frame {
         centroids: &[0.0; 512],
         order: &FOUR,
-        cap: None,
+        config: settings(None),
         passes: &PASS,
     };
-    most.over_one_slot(rt, "256 centroids, 4 kept");
+    over_one_slot(rt, "256 centroids, 4 kept", &most);
     let more = Frame {
         centroids: &[0.0; 514],
         ..most
     };
-    more.over_one_slot(rt, "257 centroids");
+    over_one_slot(rt, "257 centroids", &more);
     let three = Frame {
         order: &THREE,
         ..most
     };
-    three.over_one_slot(rt, "256 centroids, 3 kept");
+    over_one_slot(rt, "256 centroids, 3 kept", &three);
 }
 
 // Makes calls that end without a read: "Cap 0 is Timeout even with no spots."
@@ -122,17 +107,17 @@ fn without_a_read(rt: &impl Print) {
     let none = Frame {
         centroids: &[],
         order: &[],
-        cap: Some(0),
+        config: settings(Some(0)),
         passes: &PASS,
     };
-    none.over_one_slot(rt, "no spots, cap 0");
+    over_one_slot(rt, "no spots, cap 0", &none);
     let three = Frame {
         centroids: &SPOTS,
         order: &THREE,
-        cap: None,
+        config: settings(None),
         passes: &PASS,
     };
-    three.call(rt, "3 kept, 0 slots", 0, &[]);
+    call(rt, "3 kept, 0 slots", &three, 0, &[]);
 }
 
 // Makes calls with two passes: "Before each pass and each combination, a cap already reached ends it with Timeout." "The last pass's status
@@ -141,20 +126,20 @@ fn over_two_passes(rt: &impl Print) {
     let fewer = Frame {
         centroids: &SPOTS,
         order: &FOUR,
-        cap: Some(1),
+        config: settings(Some(1)),
         passes: &[0.5, 0.125, 1.0, 0.5, 0.125, 0.0],
     };
-    fewer.over_one_slot(rt, "4 kept then 1, cap 1");
+    over_one_slot(rt, "4 kept then 1, cap 1", &fewer);
     let later = Frame {
-        cap: Some(2),
+        config: settings(Some(2)),
         ..fewer
     };
-    later.over_one_slot(rt, "4 kept then 1, cap 2");
+    over_one_slot(rt, "4 kept then 1, cap 2", &later);
     let more = Frame {
         passes: &[0.5, 0.125, 0.0, 0.5, 0.125, 1.0],
         ..fewer
     };
-    more.over_one_slot(rt, "1 kept then 4, cap 1");
+    over_one_slot(rt, "1 kept then 4, cap 1", &more);
 }
 
 // Makes all the calls.

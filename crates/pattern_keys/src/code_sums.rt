@@ -14,6 +14,7 @@ fn double(sums: &mut [u64; 32], n: usize, v: u64)
 }
 
 // Writes to `sums` the hashes of the 32 codes, for ranges with the lower ends lo.
+// Kept: five calls by size, since each adds another power of bins, and a loop would need a list of them.
 pub fn fill(lo: [u32; 5], bins: u32, sums: &mut [u64; 32])
     requires { Parts lo bins }
     ensures { Sums sums.new lo bins 32 9223372036854775808 }

@@ -49,6 +49,7 @@ const TWOS: [u64; 32] = [
 ];
 
 // Returns the code of the key c, for ranges with the lower ends lo.
+// Kept: five bits with their weights, written out as they stand in the code; a fold over pairs says no more.
 pub fn code_of(c: [u32; 5], lo: [u32; 5], hi: [u32; 5], bins: u32) -> u64
     requires { Pairs c lo hi bins }
     ensures { (result ≡ code_of c lo) × (result < 32) }
@@ -99,6 +100,7 @@ fn add(
 }
 
 // Writes to `out` the sums of the valid codes, in the order around c, and returns their count.
+// Kept: six calls one after another, since a loop over the six packed lists would have to say which of them are done.
 pub fn listed(c: u64, valid: u32, sums: &[u64; 32], out: &mut [u64; 1024]) -> usize
     requires { c < 32 }
     ensures { Put out.old out.new 0 result (chosen sums.now valid (codes_around c)) }

@@ -17,6 +17,7 @@ fn squared_difference(x: u32, y: u32) -> u64
 }
 
 // Returns the squared distance of two keys.
+// Kept: the sum written out, since a sum over a zip needs a clause of its own for the bound of each square.
 fn squared_distance(c: [u32; 5], k: [u32; 5], bins: u32) -> u64
     requires { Parts c bins × Parts k bins }
     ensures { result ≡ squared_distance c k }

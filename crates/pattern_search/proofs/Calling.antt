@@ -2,9 +2,7 @@
 use mathlib.Core.Path.{◌≡◌, sym, ◌∙◌, ap, subst}
 use Prim.Native.Nat.{ℕ, ◌<◌}
 use mathlib.Core.Bool.{Bool, true, false}
-use mathlib.Core.List.{List}
 use Rattle.std.specs.Prelude.{Option, None, Some, Result, Err}
-use lib.Ieee.{Float}
 use Rattle.candidates.specs.declared.entry_tests.Candidate.{Candidate}
 use Rattle.undivided_run.specs.declared.state.State.{State}
 use Rattle.undivided_run.specs.declared.state.Cursor.{Cursor}
@@ -74,8 +72,8 @@ module _ (D : Data) (st : State) (a : ℕ) where
         call_run p y ye = ye ∙ ap searched (ap (continuing (feed D) D.frame.config.cap st a) cursor_begun ∙ sym (search_run (feed D) D.frame.config.cap st a p) ∙ sym passed)
 
         -- The call is ready for its first read.
-        pub ready : (h : Cache) (places : List ℕ) (geometry : List Float) (hashes : List ℕ) → PassCacheValid D.frame h places geometry → CombinationCacheValid D.frame h hashes → Ready D cursor h places geometry hashes
-        ready h places geometry hashes p f =
+        pub ready : (h : Cache) → PassCacheValid D.frame h → CombinationCacheValid D.frame h → Ready D cursor h
+        ready h p f =
             let q = seven_asked D.frame D.slots D.words D.stars s in
             let t = seven_table D.frame D.slots D.words D.stars s in
             record {

@@ -32,9 +32,10 @@ use Rattle.search_feed.specs.Image.{kept_places, kept_place, pass_of}
 use Rattle.search_feed.specs.Feed.{feed, entry_at, slot_at, tested_at, if_hit, candidate_of, places_of, hash_of_read}
 use Rattle.search_feed.specs.TableRead.{places_in, made_candidate, evaluated_entry, table_read}
 use Rattle.search_feed.proofs.TableRead.{table_read_at}
-use Rattle.search_cache.specs.Cache.{PassCacheValid, CombinationCacheValid, LoadedPass, LoadedCombination}
+use Rattle.search_cache.specs.Cache.{PassCacheValid, CombinationCacheValid, LoadedPass, LoadedCombination, LoadedFor}
 use Rattle.search_feed.specs.Claims.{FrameFits}
 use Rattle.search_cache.specs.declared.pass.Cache.{Cache}
+use Rattle.search_cache.specs.declared.read.Loaded.{Loaded}
 use Rattle.question.specs.Question.{number_of}
 use Rattle.question.specs.declared.Question.{Question}
 use Rattle.question.specs.declared.Question.TheVariants.{EntryAndStars}
@@ -93,13 +94,13 @@ module _ (D : Data) (r : Position) where
   entry_filled x m = filled_means x (filled (feed D) r) (valid_at (feed D) r) (gives (feed D) r) m
 
 -- ---- A call between two reads.
-module _ (D : Data) (w : Cursor) (r : Position) (h : Cache) (places : List ℕ) (geometry : List Float) (hashes : List ℕ) (y : Ready D w h places geometry hashes) (e : w.next ≡ goes r) where
+module _ (D : Data) (w : Cursor) (r : Position) (h : Cache) (y : Ready D w h) (e : w.next ≡ goes r) where
   -- The next read of the call is at numbers that exist.
   pub here_of : ReadExists (feed D) r
   here_of = rw e at y.good.here
 
   -- The cache can be loaded for the next read.
-  pub load_ready : FrameFits D.frame × PassCacheValid D.frame h places geometry × CombinationCacheValid D.frame h hashes × (r.pass < length D.frame.passes / 3) × Rising (length (kept_places D.frame r.pass)) r.four
+  pub load_ready : FrameFits D.frame × PassCacheValid D.frame h × CombinationCacheValid D.frame h × (r.pass < length D.frame.passes / 3) × Rising (length (kept_places D.frame r.pass)) r.four
   unfolding feed
   load_ready = (y.asked, y.pass, y.four, here_of.four.pass, here_of.four.rising)
 
@@ -108,23 +109,23 @@ module _ (D : Data) (w : Cursor) (r : Position) (h : Cache) (places : List ℕ) 
   room_of = let g = good_room (feed D) D.frame.config.cap (every_combination_keyed D y.asked) w r e y.good in (g.1, g.0)
 
 -- ---- The cache that is loaded for a read.
-module _ (D : Data) (r : Position) (h : Cache) (places : List ℕ) (geometry : List Float) (hashes : List ℕ) (a : FrameFits D.frame) (p : LoadedPass D.frame r.pass h places geometry) (o : LoadedCombination D.frame r.pass r.four h hashes) (n : ReadExists (feed D) r) where
-  rises : Rising h.kept r.four
+module _ (D : Data) (r : Position) (h : Cache) (x : Loaded) (a : FrameFits D.frame) (p : LoadedPass D.frame r.pass h) (o : LoadedCombination D.frame r.pass r.four h) (u : LoadedFor D.frame r.pass r.four x) (n : ReadExists (feed D) r) where
+  rises : Rising (length (kept_places D.frame r.pass)) r.four
   unfolding feed
-  rises = subst (λ k. Rising k r.four) (sym p.cached.count) n.four.rising
+  rises = n.four.rising
 
-  key_below : r.key < h.keys
+  key_below : r.key < x.keys
   unfolding feed
-  key_below = subst (λ k. r.key < k) (sym o.cached.count) n.key
+  key_below = subst (λ k. r.key < k) (sym u.keys) n.key
 
-  keys_few : h.keys ≤ 1024
+  keys_few : x.keys ≤ 1024
   unfolding feed
-  keys_few = subst (λ k. k ≤ 1024) (sym o.cached.count) (keys_counted D.frame a r.pass n.four.pass r.four n.four.rising).1
+  keys_few = subst (λ k. k ≤ 1024) (sym u.keys) (keys_counted D.frame a r.pass n.four.pass r.four n.four.rising).1
 
-  cached_place : (x : ℕ) → x < h.kept → get_or places x 0 ≡ kept_place D.frame r.pass x
-  cached_place x l = sym (get_or-take h.kept places x 0 l) ∙ ap (λ z. get_or z x 0) p.cached.places_are
+  cached_place : (k : ℕ) → k < length (kept_places D.frame r.pass) → get_or h.places k 0 ≡ kept_place D.frame r.pass k
+  cached_place k l = sym (get_or-take p.held.kept h.places k 0 (omega (arith, p.cached.count))) ∙ ap (λ z. get_or z k 0) p.cached.places_are
 
-  places_same : places_in places r.four ≡ places_of D.frame r.pass r.four
+  places_same : places_in h.places r.four ≡ places_of D.frame r.pass r.four
   unfolding places_of
   places_same =
       let s = rises in
@@ -135,29 +136,29 @@ module _ (D : Data) (r : Position) (h : Cache) (places : List ℕ) (geometry : L
         cached_place r.four.d s.dn,
       )
 
-  hash_same : get_or hashes r.key 0 ≡ hash_of_read D.frame r
-  hash_same = o.cached.hash r.key key_below
+  hash_same : get_or h.hashes r.key 0 ≡ hash_of_read D.frame r
+  hash_same = o.cached.hash r.key (omega (arith, key_below, u.keys, o.cached.count))
 
   -- what `read_slot` gives from the cache is `table_read_at` of the read
-  pub read_slot_same : (field : Float) → field ≡ (pass_of D.frame r.pass).field → (x : Result ReadOutcome Question) → x ≡ table_read D.words D.packed ((home_of (get_or hashes r.key 0) D.slots + r.probe * r.probe) % D.slots) (get_or hashes r.key 0) (places_in places r.four) r.pass h.image D.frame.config field D.stars → x ≡ table_read_at D r
+  pub read_slot_same : (field : Float) → field ≡ (pass_of D.frame r.pass).field → (y : Result ReadOutcome Question) → y ≡ table_read D.words D.packed ((home_of (get_or h.hashes r.key 0) D.slots + r.probe * r.probe) % D.slots) (get_or h.hashes r.key 0) (places_in h.places r.four) r.pass x.image D.frame.config field D.stars → y ≡ table_read_at D r
   unfolding slot_at
-  read_slot_same field fe x xe = xe ∙ rw (hash_same, places_same, fe, o.cached.image_is)
+  read_slot_same field fe y ye = ye ∙ rw (hash_same, places_same, fe, u.image)
 
   -- .. and its numbers are in bounds
-  pub read_slot_bounds : table_fits D.slots D.words ≡ true → (r.key < 1024) × (r.probe < D.slots) × (r.four.a < 64) × (r.four.b < 64) × (r.four.c < 64) × (r.four.d < 64) × (D.frame.config.bins ≤ 4096) × (table_fits D.slots D.words ≡ true) × (length places ≡ 64) × (length hashes ≡ 1024)
+  pub read_slot_bounds : table_fits D.slots D.words ≡ true → (r.key < 1024) × (r.probe < D.slots) × (r.four.a < 64) × (r.four.b < 64) × (r.four.c < 64) × (r.four.d < 64) × (D.frame.config.bins ≤ 4096) × (table_fits D.slots D.words ≡ true)
   unfolding feed
   read_slot_bounds t =
-      let b = four_below D.frame r.pass h places geometry p a r.four rises in
-      (omega (arith, key_below, keys_few), n.probe, b.0, b.1, b.2, b.3, (fitting D.frame.config a.four).narrow.few_bins, t, p.places_long, o.hashes_long)
+      let b = four_below D.frame r.pass h p a r.four rises in
+      (omega (arith, key_below, keys_few), n.probe, b.0, b.1, b.2, b.3, (fitting D.frame.config a.four).narrow.few_bins, t)
 
-  pub at_read : table_fits D.slots D.words ≡ true → LoadedRead D.frame D.slots h r places geometry
+  pub at_read : table_fits D.slots D.words ≡ true → LoadedRead D.frame D.slots h x r
   unfolding feed
   at_read t =
       record {
         loaded = p;
-        small = kept_64 D.frame r.pass h places geometry p a;
-        rising = rises;
-        keys = o.cached.count;
+        with = u;
+        small = omega (arith, u.kept, kept_64 D.frame r.pass h p);
+        rising = rw u.kept rises;
         few = keys_few;
         key = key_below;
         probe = n.probe;
@@ -188,22 +189,22 @@ module _ (D : Data) (st : State) (a : ℕ) (w : Cursor) where
     reply_hit f s g v ve z ze = rw (iterate_hit (feed D) cap st a w r e p f s g, ze, ve)
 
     -- An iteration after which the call goes on.
-    iterate_more : valid_at (feed D) r ≡ true → gives (feed D) r ≡ None → (v : Cursor) → v ≡ after_read (feed D) cap w r → (h : Cache) (places : List ℕ) (geometry : List Float) (hashes : List ℕ) → Ready D v h places geometry hashes → Iterated D st a w places geometry hashes (Goes v h (a - 1))
-    iterate_more s n v ve h places geometry hashes y = (omega (arith, p), ap (continuing (feed D) cap st (a - 1)) ve ∙ iterate_passed (feed D) cap st a w r e p s n, y)
+    iterate_more : valid_at (feed D) r ≡ true → gives (feed D) r ≡ None → (v : Cursor) → v ≡ after_read (feed D) cap w r → (h : Cache) → Ready D v h → Iterated D st a w h (Goes v (a - 1))
+    iterate_more s n v ve h y = (omega (arith, p), ap (continuing (feed D) cap st (a - 1)) ve ∙ iterate_passed (feed D) cap st a w r e p s n, y)
 
     -- The iteration of a read that question 9 does not refuse.
-    module _ (v : Cursor) (ve : v ≡ after_read (feed D) cap w r) (h : Cache) (places : List ℕ) (geometry : List Float) (hashes : List ℕ) (y : Ready D v h places geometry hashes) where
-      by_outcome : (s : ReadOutcome) → Means (Ok s) (filled (feed D) r) (valid_at (feed D) r) (gives (feed D) r) → Iterated D st a w places geometry hashes (iteration_after s v h (a - 1))
-      by_outcome Empty m = iterate_more m.1 m.2 v ve h places geometry hashes y
-      by_outcome Passed m = iterate_more m.1 m.2 v ve h places geometry hashes y
+    module _ (v : Cursor) (ve : v ≡ after_read (feed D) cap w r) (h : Cache) (y : Ready D v h) where
+      by_outcome : (s : ReadOutcome) → Means (Ok s) (filled (feed D) r) (valid_at (feed D) r) (gives (feed D) r) → Iterated D st a w h (iteration_after s v (a - 1))
+      by_outcome Empty m = iterate_more m.1 m.2 v ve h y
+      by_outcome Passed m = iterate_more m.1 m.2 v ve h y
       by_outcome (Found x) m = reply_hit x m.1 m.2 v ve _ refl
 
-      pub read_iterated : (x : ReadOutcome) → Means (Ok x) (filled (feed D) r) (valid_at (feed D) r) (gives (feed D) r) → (u : Iteration) → u ≡ iteration_after x v h (a - 1) → Iterated D st a w places geometry hashes u
-      read_iterated x m u ue = subst (Iterated D st a w places geometry hashes) (sym ue) (by_outcome x m)
+      pub read_iterated : (x : ReadOutcome) → Means (Ok x) (filled (feed D) r) (valid_at (feed D) r) (gives (feed D) r) → (u : Iteration) → u ≡ iteration_after x v (a - 1) → Iterated D st a w h u
+      read_iterated x m u ue = subst (Iterated D st a w h) (sym ue) (by_outcome x m)
 
 -- after a read the call is ready for the next
-pub ready_after : (D : Data) (w : Cursor) (r : Position) (h g : Cache) (p p2 : List ℕ) (d d2 : List Float) (l l2 : List ℕ) → Ready D w h p d l → w.next ≡ goes r → (v : Cursor) → v ≡ after_read (feed D) D.frame.config.cap w r → PassCacheValid D.frame g p2 d2 → CombinationCacheValid D.frame g l2 → Ready D v g p2 d2 l2
-ready_after D w r h g p p2 d d2 l l2 y e v ve pd fd =
+pub ready_after : (D : Data) (w : Cursor) (r : Position) (h g : Cache) → Ready D w h → w.next ≡ goes r → (v : Cursor) → v ≡ after_read (feed D) D.frame.config.cap w r → PassCacheValid D.frame g → CombinationCacheValid D.frame g → Ready D v g
+ready_after D w r h g y e v ve pd fd =
     record {
       asked = y.asked;
       table = y.table;

@@ -3,9 +3,7 @@ use mathlib.Core.Path.{◌≡◌, refl, sym, ◌∙◌, ap, subst}
 use Prim.Native.Nat.{ℕ, ◌+◌, ◌-◌, ◌≤◌, ◌<◌}
 use native.Mathlib.Omega.{arith}
 use native.Mathlib.Nat.{eq-or-lt_of_le}
-use mathlib.Core.List.{List}
 use mathlib.Core.Logic.{⊎_elim}
-use lib.Ieee.{Float}
 use borrow.Author.Tests.{eq-eqb, ne_eqb}
 use Rattle.undivided_run.specs.declared.state.Position.{Position}
 use Rattle.undivided_run.specs.declared.state.State.{State}
@@ -16,8 +14,9 @@ use Rattle.undivided_run.specs.PositionExists.{Keyed}
 use Rattle.undivided_run.specs.CallInvariant.{CallInvariant, continuing}
 use Rattle.search_feed.specs.Data.{Data}
 use Rattle.search_feed.specs.Feed.{feed}
-use Rattle.search_cache.specs.Cache.{LoadedPass, LoadedCombination}
+use Rattle.search_cache.specs.Cache.{LoadedPass, LoadedCombination, LoadedFor}
 use Rattle.search_cache.specs.declared.pass.Cache.{Cache}
+use Rattle.search_cache.specs.declared.read.Loaded.{Loaded}
 use Rattle.search_feed.proofs.WithinLimits.{every_combination_keyed}
 use Rattle.fast_path.specs.SkipReads.{skipped_reads}
 use Rattle.undivided_run.specs.Moves.{at_key}
@@ -75,32 +74,32 @@ module _ (w : Cursor) (p : Position) (s : SkipResult) (a : ℕ) where
     pub passes : Passes D
     passes = ⊎_elim none_after_skip some_after_skip (eq-or-lt_of_le {n = s.left} {m = a} l.fewer)
 
-module _ (D : Data) (w : Cursor) (p : Position) (h0 h : Cache) (places places0 : List ℕ) (geometry geometry0 : List Float) (hashes hashes0 : List ℕ) (y : Ready D w h0 places0 geometry0 hashes0) (e : w.next ≡ goes p) (f : LoadedPass D.frame p.pass h places geometry) (o : LoadedCombination D.frame p.pass p.four h hashes) where
+module _ (D : Data) (w : Cursor) (p : Position) (h0 h : Cache) (x : Loaded) (y : Ready D w h0) (e : w.next ≡ goes p) (f : LoadedPass D.frame p.pass h) (o : LoadedCombination D.frame p.pass p.four h) (u : LoadedFor D.frame p.pass p.four x) where
   -- The reads skipped are those of the keys that the cache holds.
-  module _ (a : ℕ) (s : SkipResult) (se : s ≡ skipped_reads D.words D.packed D.stars D.slots hashes (h.keys - (p.key + 1)) p.key p.probe a) where
+  module _ (a : ℕ) (s : SkipResult) (se : s ≡ skipped_reads D.words D.packed D.stars D.slots h.hashes (x.keys - (p.key + 1)) p.key p.probe a) where
     leads : Leads (feed D) p a s.left (at_key p s.key s.probe)
     unfolding feed
     leads =
-        let n = here_of D w p h0 places0 geometry0 hashes0 y e in
-        let k : p.key < h.keys = subst (λ x. p.key < x) (sym o.cached.count) n.key in
+        let n = here_of D w p h0 y e in
+        let k : p.key < x.keys = subst (λ z. p.key < z) (sym u.keys) n.key in
         subst (λ (t : SkipResult). Leads (feed D) p a t.left (at_key p t.key t.probe)) (sym se)
-        (skipped_reads_leads D p hashes h.keys o.cached.count o.cached.hash (h.keys - (p.key + 1)) p.key p.probe a (omega arith) n.probe)
+        (skipped_reads_leads D p h.hashes x.keys u.keys (λ i l. o.cached.hash i (omega (arith, l, u.keys, o.cached.count))) (x.keys - (p.key + 1)) p.key p.probe a (omega arith) n.probe)
 
     pub skip_reads_passes : Passes w p s a D
     skip_reads_passes = passes w p s a D y.good e (every_combination_keyed D y.asked) leads
 
     -- The call is ready for the read that the skipped reads lead to.
-    pub after_skip_ready : (v : Cursor) → v ≡ cursor_after_skip w p s a → Ready D v h places geometry hashes
+    pub after_skip_ready : (v : Cursor) → v ≡ cursor_after_skip w p s a → Ready D v h
     after_skip_ready v ve =
         record {
           asked = y.asked;
           table = y.table;
           good = rw ve skip_reads_passes.good;
-          pass = loaded_pass D.frame p.pass h places geometry f;
-          four = loaded_four D.frame p.pass p.four h hashes o f.is;
+          pass = loaded_pass D.frame p.pass h f;
+          four = loaded_four D.frame p.pass h f p.four o;
         }
 
 -- an iteration from there is an iteration from here
-pub iterated_from : (D : Data) (st : State) (a left : ℕ) (w v : Cursor) (places : List ℕ) (geometry : List Float) (hashes : List ℕ) (u : Iteration) → left ≤ a → continuing (feed D) D.frame.config.cap st left v ≡ continuing (feed D) D.frame.config.cap st a w → Iterated D st left v places geometry hashes u → Iterated D st a w places geometry hashes u
-iterated_from D st a left w v places geometry hashes (Over reply) h e t = t ∙ ap searched e
-iterated_from D st a left w v places geometry hashes (Goes x g l) h e t = (omega (arith, t.0), t.1 ∙ e, t.2)
+pub iterated_from : (D : Data) (st : State) (a left : ℕ) (w v : Cursor) (h : Cache) (u : Iteration) → left ≤ a → continuing (feed D) D.frame.config.cap st left v ≡ continuing (feed D) D.frame.config.cap st a w → Iterated D st left v h u → Iterated D st a w h u
+iterated_from D st a left w v h (Over reply) l e t = t ∙ ap searched e
+iterated_from D st a left w v h (Goes x k) l e t = (omega (arith, t.0), t.1 ∙ e, t.2)

@@ -1,5 +1,5 @@
 -- What one iteration of a search call returns, and what holds of the call between two iterations. Definitions only.
-use Rattle.std.specs.Prelude.{◌≡◌, ℕ, ◌+◌, ◌-◌, ◌<◌, Bool, true, false, cond, eqb, List, Float, Ok}
+use Rattle.std.specs.Prelude.{◌≡◌, ℕ, ◌+◌, ◌-◌, ◌<◌, Bool, true, false, cond, eqb, Ok}
 use Rattle.pattern_catalog.specs.Blocks.{table_fits}
 use Rattle.undivided_run.specs.declared.state.Position.{Position}
 use Rattle.undivided_run.specs.declared.state.State.{State}
@@ -29,10 +29,10 @@ saw_entry Passed = true
 saw_entry (Found x) = true
 
 -- The iteration of a read with this outcome, where w is the cursor after the read.
-abbrev pub iteration_after : ReadOutcome → Cursor → Cache → ℕ → Iteration
-iteration_after (Found x) w h left = Over (record { answer = Ok (SaidCandidate x); state = record { phase = phase_of w.next; patterns = w.patterns; reads = w.reads } })
-iteration_after Empty w h left = Goes w h left
-iteration_after Passed w h left = Goes w h left
+abbrev pub iteration_after : ReadOutcome → Cursor → ℕ → Iteration
+iteration_after (Found x) w left = Over (record { answer = Ok (SaidCandidate x); state = record { phase = phase_of w.next; patterns = w.patterns; reads = w.reads } })
+iteration_after Empty w left = Goes w left
+iteration_after Passed w left = Goes w left
 
 -- The cursor after the reads that `fast_path` skipped, where w is the cursor before them, p its read, and a the reads allowed before them.
 abbrev pub cursor_after_skip : Cursor → Position → SkipResult → ℕ → Cursor
@@ -40,23 +40,23 @@ cursor_after_skip w p s a = cond (eqb s.left a) w (record { next = goes (at_key 
 
 module _ (D : Data) where
   -- What holds of a call between two reads: questions 1 to 6 are answered yes, the call's invariant holds, and the cache holds what it says.
-  pub record Ready (w : Cursor) (h : Cache) (places : List ℕ) (geometry : List Float) (hashes : List ℕ) : Type 0 where
+  pub record Ready (w : Cursor) (h : Cache) : Type 0 where
     -- Questions 1 to 5 are answered yes.
     pub asked : FrameFits D.frame
     -- Question 6 is answered yes.
     pub table : table_fits D.slots D.words ≡ true
     pub good : CallInvariant (feed D) D.frame.config.cap w
-    pub pass : PassCacheValid D.frame h places geometry
+    pub pass : PassCacheValid D.frame h
     -- The array of the combination holds what the cache says.
-    pub four : CombinationCacheValid D.frame h hashes
+    pub four : CombinationCacheValid D.frame h
 
   -- What the call returns from the cursor w on, where st is the state received and a the reads still allowed.
   abbrev pub rest : State → ℕ → Cursor → Searched
   rest st a w = searched (continuing (feed D) D.frame.config.cap st a w)
 
-  -- What an iteration ensures. If it ends the call, its reply is the call's reply; if not, fewer reads are allowed, the rest of the call is the
-  -- same, and the call is ready to go on.
-  abbrev pub Iterated : State → ℕ → Cursor → List ℕ → List Float → List ℕ → Iteration → Type 0
-  Iterated st a w places geometry hashes (Over reply) = reply ≡ rest st a w
-  Iterated st a w places geometry hashes (Goes v h left) =
-      (left < a) × (continuing (feed D) D.frame.config.cap st left v ≡ continuing (feed D) D.frame.config.cap st a w) × Ready v h places geometry hashes
+  -- What an iteration ensures that leaves the cache h. If it ends the call, its reply is the call's reply; if not, fewer reads are allowed, the rest
+  -- of the call is the same, and the call is ready to go on.
+  abbrev pub Iterated : State → ℕ → Cursor → Cache → Iteration → Type 0
+  Iterated st a w h (Over reply) = reply ≡ rest st a w
+  Iterated st a w h (Goes v left) =
+      (left < a) × (continuing (feed D) D.frame.config.cap st left v ≡ continuing (feed D) D.frame.config.cap st a w) × Ready v h

@@ -7,7 +7,6 @@ mod reading;
 pub use crate::call::search;
 use candidates::entry_tests::Candidate;
 use question::Question;
-use search_cache::pass::Cache;
 use undivided_run::state::{Cursor, State, Status};
 
 // What a call answers that no question refuses.
@@ -30,6 +29,6 @@ pub struct Searched {
 pub enum Iteration {
     // The call is over, with this reply.
     Over(Searched),
-    // The call goes on with this cursor, this cache and this allowance.
-    Goes(Cursor, Cache, u64),
+    // The call goes on with this cursor and this allowance.
+    Goes(Cursor, u64),
 }

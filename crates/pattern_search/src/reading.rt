@@ -1,14 +1,16 @@
 // One iteration of a call: the reads that give nothing gone over, then a read and what it makes of the call.
 ghost use Rattle.std.specs.Prelude.{◌≡◌, ◌+◌, ◌-◌, ◌≤◌, ◌<◌};
-ghost use Rattle.search_feed.specs.Data.{frame_of, data_of};
-ghost use Rattle.search_cache.specs.Cache.{LoadedPass, LoadedCombination};
+ghost use Rattle.search_feed.specs.Lent.{frame_in, data_in};
+ghost use Rattle.search_cache.specs.Cache.{LoadedPass, LoadedCombination, LoadedFor};
 ghost use Rattle.fast_path.specs.ValidStars.{ValidBelow};
 ghost use Rattle.pattern_search.specs.Iteration.{saw_entry, iteration_after, cursor_after_skip, Ready, Iterated};
 
 use crate::{Answer, Iteration, Searched};
 use fast_path::skip_reads::SkipResult;
 use search_cache::pass::Cache;
-use search_feed::{ReadOutcome, SearchConfig};
+use search_cache::read::Loaded;
+use search_feed::ReadOutcome;
+use search_feed::lent::{Frame, Table};
 use undivided_run::state::{Cursor, Next, Position, State};
 
 // Returns whether the slot that a read saw is filled.
@@ -19,11 +21,11 @@ fn saw_entry(read: ReadOutcome) -> bool
 }
 
 // What a read makes of the call, with the cursor after it: the candidate that it gave, or on to the next read.
-fn iteration_after(read: ReadOutcome, on: Cursor, cached: Cache, left: u64) -> Iteration
-    ensures { result ≡ iteration_after read on cached left }
+fn iteration_after(read: ReadOutcome, on: Cursor, left: u64) -> Iteration
+    ensures { result ≡ iteration_after read on left }
 {
     let ReadOutcome::Found(candidate) = read else {
-        return Iteration::Goes(on, cached, left);
+        return Iteration::Goes(on, left);
     };
     Iteration::Over(Searched {
         answer: Ok(Answer::Candidate(candidate)),
@@ -50,30 +52,27 @@ fn after_skip(cursor: Cursor, p: Position, s: SkipResult, allowance: u64) -> Cur
 
 // One read, the cache loaded for it, and what it makes of the call.
 fn single_read(
-    centroids: &[f32],
-    order: &[u32],
-    config: SearchConfig,
-    passes: &[f32],
-    slots: u64,
-    words: &[u64],
-    packed: &[u8],
-    stars: &[f32],
+    frame: &Frame<'_>,
+    table: &Table<'_>,
     st: State,
     allowance: u64,
     cursor: Cursor,
-    current: Cache,
     p: Position,
-    places: &mut [u32; 64],
-    geometry: &mut [f32; 2208],
-    hashes: &[u64; 1024],
+    loaded: Loaded,
+    cache: &mut Cache,
 ) -> Iteration
-    requires { Ready (data_of (frame_of centroids.now order.now config passes.now) slots words.now packed.now stars.now) cursor current places.old geometry.old hashes.now × (cursor.next ≡ Next.Goes p) × LoadedPass (frame_of centroids.now order.now config passes.now) p.pass current places.old geometry.old × LoadedCombination (frame_of centroids.now order.now config passes.now) p.pass p.four current hashes.now × (0 < allowance) }
-    ensures { Iterated (data_of (frame_of centroids.now order.now config passes.now) slots words.now packed.now stars.now) st allowance cursor places.new geometry.new hashes.now result }
+    requires { Ready (data_in frame.now table.now) cursor cache.old × (cursor.next ≡ Next.Goes p) × LoadedPass (frame_in frame.now) p.pass cache.old × LoadedCombination (frame_in frame.now) p.pass p.four cache.old × LoadedFor (frame_in frame.now) p.pass p.four loaded × (0 < allowance) }
+    ensures { Iterated (data_in frame.now table.now) st allowance cursor cache.new result }
 {
-    let field = settings::passes::pass_at(passes, p.pass).field;
-    let image = current.image;
+    let field = settings::passes::pass_at(frame.passes, p.pass).field;
     let read = match search_feed::read_slot(
-        p, image, &*places, hashes, config, field, slots, words, packed, stars,
+        p,
+        loaded.image,
+        &cache.places,
+        &cache.hashes,
+        frame.config,
+        field,
+        table,
     ) {
         Ok(read) => read,
         Err(question) => {
@@ -83,59 +82,32 @@ fn single_read(
             });
         }
     };
-    let s = search_step::step::step(
-        centroids,
-        order,
-        config,
-        passes,
-        slots,
-        current,
-        p,
-        saw_entry(read),
-        cursor,
-        places,
-        geometry,
-    );
-    let on = s.cursor;
-    let after = s.cached;
-    iteration_after(read, on, after, allowance - 1)
+    let full = saw_entry(read);
+    let on = search_step::step::step(frame, table.slots, p, loaded, full, cursor, cache);
+    iteration_after(read, on, allowance - 1)
 }
 
 // Over the reads of the combination at hand that give nothing, then the read that they lead to, if the allowance has one left.
 fn skip_then_read(
-    centroids: &[f32],
-    order: &[u32],
-    config: SearchConfig,
-    passes: &[f32],
-    slots: u64,
-    words: &[u64],
-    packed: &[u8],
-    stars: &[f32],
+    frame: &Frame<'_>,
+    table: &Table<'_>,
     valid: u32,
     st: State,
     allowance: u64,
     cursor: Cursor,
-    cached: Cache,
     p: Position,
-    places: &mut [u32; 64],
-    geometry: &mut [f32; 2208],
-    hashes: &mut [u64; 1024],
+    cache: &mut Cache,
 ) -> Iteration
-    requires { Ready (data_of (frame_of centroids.now order.now config passes.now) slots words.now packed.now stars.now) cursor cached places.old geometry.old hashes.old × (cursor.next ≡ Next.Goes p) × ValidBelow stars.now valid }
-    ensures { Iterated (data_of (frame_of centroids.now order.now config passes.now) slots words.now packed.now stars.now) st allowance cursor places.new geometry.new hashes.new result }
+    requires { Ready (data_in frame.now table.now) cursor cache.old × (cursor.next ≡ Next.Goes p) × ValidBelow table.now.stars.now valid }
+    ensures { Iterated (data_in frame.now table.now) st allowance cursor cache.new result }
 {
-    let current = search_cache::read::load(
-        centroids, order, config, passes, cached, p, places, geometry, hashes,
-    );
+    let loaded = cache.load(frame, p);
     let s = fast_path::skip_reads::skip_reads(
         p.key,
         p.probe,
-        current.keys,
-        &*hashes,
-        slots,
-        words,
-        packed,
-        stars,
+        loaded.keys,
+        &cache.hashes,
+        table,
         valid,
         allowance,
     );
@@ -147,36 +119,23 @@ fn skip_then_read(
         });
     }
     let to = p.at_key(s.key, s.probe);
-    single_read(
-        centroids, order, config, passes, slots, words, packed, stars, st, s.left, on, current, to,
-        places, geometry, &*hashes,
-    )
+    single_read(frame, table, st, s.left, on, to, loaded, cache)
 }
 
 // One iteration: ends the call where no read or no allowance is left, else skips reads that give nothing and makes the next.
 pub fn iterate(
-    centroids: &[f32],
-    order: &[u32],
-    config: SearchConfig,
-    passes: &[f32],
-    slots: u64,
-    words: &[u64],
-    packed: &[u8],
-    stars: &[f32],
+    frame: &Frame<'_>,
+    table: &Table<'_>,
     valid: u32,
     st: State,
     allowance: u64,
     cursor: Cursor,
-    cached: Cache,
-    places: &mut [u32; 64],
-    geometry: &mut [f32; 2208],
-    hashes: &mut [u64; 1024],
+    cache: &mut Cache,
 ) -> Iteration
-    requires { Ready (data_of (frame_of centroids.now order.now config passes.now) slots words.now packed.now stars.now) cursor cached places.old geometry.old hashes.old × ValidBelow stars.now valid }
-    ensures { Iterated (data_of (frame_of centroids.now order.now config passes.now) slots words.now packed.now stars.now) st allowance cursor places.new geometry.new hashes.new result }
+    requires { Ready (data_in frame.now table.now) cursor cache.old × ValidBelow table.now.stars.now valid }
+    ensures { Iterated (data_in frame.now table.now) st allowance cursor cache.new result }
 {
-    let next = cursor.next;
-    match next {
+    match cursor.next {
         Next::Ends(s) => Iteration::Over(Searched {
             answer: Ok(Answer::Ended(s)),
             state: cursor.state(),
@@ -188,10 +147,7 @@ pub fn iterate(
                     state: cursor.state(),
                 });
             }
-            skip_then_read(
-                centroids, order, config, passes, slots, words, packed, stars, valid, st,
-                allowance, cursor, cached, p, places, geometry, hashes,
-            )
+            skip_then_read(frame, table, valid, st, allowance, cursor, p, cache)
         }
     }
 }

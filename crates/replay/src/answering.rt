@@ -29,18 +29,7 @@ pub fn answer(rt: &impl Print, record: &Record, lent: &Lent) -> Result<State, Br
 
 // Makes one call of the search from a state and writes its line. Returns the state after it, to go on from or to stop at in a run.
 fn call(rt: &impl Print, lent: &Lent, state: State, allowance: u64) -> ControlFlow<State, State> {
-    let searched = pattern_search::search(
-        lent.coords(),
-        lent.places(),
-        lent.inputs.config,
-        lent.triples(),
-        lent.inputs.table.slots,
-        lent.words(),
-        lent.packed(),
-        lent.stars(),
-        state,
-        allowance,
-    );
+    let searched = pattern_search::search(&lent.frame(), &lent.table(), state, allowance);
     call_line(rt, searched);
     match searched.answer {
         Ok(Answer::Candidate(_) | Answer::AllowanceUsed) => ControlFlow::Continue(searched.state),

@@ -6,7 +6,7 @@ use mathlib.Core.Bool.{Bool, true, false, cond}
 use mathlib.Core.List.{List, [], ◌++◌}
 use mathlib.Core.Logic.{◌⊎◌, inl, inr}
 use lib.IntN.{pos}
-use borrow.Rule.Slice.PartMut.{put_mid, post_of, same_len_mid}
+use borrow.Rule.Slice.PartMut.{put_mid, post_of}
 use lib.ListN.{length, get_or, set, take, drop, replicate, length-set, length-drop, length-replicate, get_or-replicate}
 use lib.Seq.{get_or-set_same, get_or-set_other}
 use lib.Ieee.{Float, nan, fin, lt}
@@ -95,11 +95,11 @@ six_beside m q r h =
     right : (i j : ℕ) → i < j → j < suc q.d → known_or (angle_in m i j) (direction_at m i) (direction_at m j) ≡ angle (direction_at m i) (direction_at m j)
     right i j = beside_right (suc q.d) m i j h
 
-pub still_same : (m : List Float) → length m ≡ 2208 → SameDirections m m
-still_same m l = record { directions = λ k p. refl; cached = λ n h. h; long = l }
+pub still_same : (m : List Float) → SameDirections m m
+still_same m = record { directions = λ k p. refl; cached = λ n h. h }
 
 pub still_on : (m m' m'' : List Float) → SameDirections m m' → SameDirections m' m'' → SameDirections m m''
-still_on m m' m'' s t = record { directions = λ k p. t.directions k p ∙ s.directions k p; cached = λ n h. t.cached n (s.cached n h); long = t.long }
+still_on m m' m'' s t = record { directions = λ k p. t.directions k p ∙ s.directions k p; cached = λ n h. t.cached n (s.cached n h) }
 
 -- the angle of two directions that stayed
 pub still_angle : (m m' : List Float) (i j : ℕ) → SameDirections m m' → i < 64 → j < 64 → angle (direction_at m' i) (direction_at m' j) ≡ angle (direction_at m i) (direction_at m j)
@@ -143,7 +143,6 @@ module _ (m : List Float) (i j : ℕ) (w : Float) (l : i < j) (p : j < 64) (long
                 ]
           ];
         };
-        long = length-set m (row_at j + i) w ∙ long;
       }
 
 -- ---- Directions are loaded.
@@ -200,7 +199,6 @@ module _ (dirs : List (List Float)) (k : ℕ) (m : List Float) (v : List Float) 
 pub record Forgot (m₀ : List Float) (s : ℕ) (m : List Float) : Type 0 where
   pub each : (x : ℕ) → 192 ≤ x → x < s → get_or m x nan ≡ unset
   pub directions : (k : ℕ) → k < 64 → direction_at m k ≡ direction_at m₀ k
-  pub long : length m ≡ 2208
 
 -- The places from 192 up to e are written at once.
 pub angles_long : (m : List Float) (e : ℕ) → length m ≡ 2208 → e ≤ 2208 → length (take (e - 192) (drop 192 m)) ≡ e - 192
@@ -229,7 +227,6 @@ module _ (m ys : List Float) (e : ℕ) (l : length m ≡ 2208) (p : 192 ≤ e) (
       record {
         each = place_in;
         directions = λ k h. same_three (place_before (3 * k) (omega arith)) (place_before (3 * k + 1) (omega arith)) (place_before (3 * k + 2) (omega arith));
-        long = same_len_mid 192 (e - 192) m ys (many ∙ sym (angles_long m e l q)) ∙ l;
       }
 
 pub forgot_cached : (m₀ : List Float) (s n : ℕ) (m : List Float) → n ≤ 64 → row_at n ≤ s → Forgot m₀ s m → AnglesCached n m

@@ -2,7 +2,6 @@
 use mathlib.Core.Path.{◌≡◌, refl, ◌∙◌, subst}
 use Prim.Native.Nat.{ℕ, ◌≤◌}
 use native.Mathlib.Omega.{arith}
-use mathlib.Core.Bool.{true}
 use mathlib.Core.List.{List}
 use lib.Ieee.{Float}
 use Rattle.combinations.specs.declared.Combination.{Combination}
@@ -13,8 +12,10 @@ use Rattle.candidates.specs.declared.entry_tests.Image.{Image}
 use Rattle.search_feed.specs.Data.{Frame}
 use Rattle.pattern.specs.Edges.{angles, edges_of}
 use Rattle.search_feed.specs.Image.{tolerance_in, keys_in, hash_in, image_of, image_at}
-use Rattle.search_cache.specs.Cache.{HoldsCombination, CombinationCacheValid, LoadedCombination}
+use Rattle.search_cache.specs.Cache.{HoldsCombination, CombinationCacheValid, LoadedPass, LoadedCombination}
 use Rattle.search_cache.specs.declared.pass.Cache.{Cache}
+use Rattle.search_cache.specs.declared.pass.CombinationKeys.{CombinationKeys}
+use Rattle.std.specs.Prelude.{Some}
 use Rattle.search_cache.specs.CombinationKeys.{image_from, Prepared}
 use Rattle.search_feed.specs.declared.SearchConfig.{SearchConfig}
 
@@ -23,7 +24,7 @@ pub prepared : (c : SearchConfig) (shown : Image) (n : ℕ) (image : Image) (e :
 unfolding keys_in hash_in
 prepared c shown n image e hashes m t h =
     let k = rw (m, t) at h in
-    record { image_is = m; count = k.count; hash = k.each; hashes_long = k.long }
+    record { image_is = m; count = k.count; hash = k.each }
 
 -- Four positions that rise below n rise below any number from n on.
 pub rises_wider : (n m : ℕ) (q : Combination) → n ≤ m → Rising n q → Rising m q
@@ -34,10 +35,16 @@ pub angles_show : (v : List (List Float)) → image_from (angles v) ≡ image_of
 unfolding image_from image_of edges_of
 angles_show v = refl
 
-pub four_again : (F : Frame) (h : Cache) (q : Combination) (hashes : List ℕ) → CombinationCacheValid F h hashes → h.keyed ≡ true → h.four ≡ q → LoadedCombination F h.pass q h hashes
-four_again F h q hashes d y e =
-    let f = rw y at d.four in
-    record { yes = y; is = e; cached = subst (λ k. HoldsCombination F h.pass k h.keys h.image hashes) e f; hashes_long = d.hashes_long }
+-- A cache that says that it has this combination is loaded for it.
+pub four_again : (F : Frame) (i : ℕ) (h : Cache) (q : Combination) (k : CombinationKeys) → LoadedPass F i h → CombinationCacheValid F h → h.four ≡ Some k → k.four ≡ q → LoadedCombination F i q h
+four_again F i h q k l d y e =
+    let f = rw (y, l.yes) at d.four in
+    record {
+      held = k;
+      yes = y;
+      is = e;
+      cached = subst (λ j. HoldsCombination F j q k.keys k.image h.hashes) l.is (subst (λ z. HoldsCombination F l.held.number z k.keys k.image h.hashes) e f);
+    }
 
 pub four_prepared : (F : Frame) (i : ℕ) (q : Combination) (c : SearchConfig) (shown : Image) (n : ℕ) (image : Image) (hashes : List ℕ) → F.config ≡ c → shown ≡ image_at F i q → Prepared c shown n image hashes → HoldsCombination F i q n image hashes
 four_prepared F i q c shown n image hashes e d p =

@@ -1,8 +1,7 @@
 -- The cache is loaded for a pass, or left as it is where it has that pass already. Assumes nothing.
-use mathlib.Core.Path.{◌≡◌, subst}
+use mathlib.Core.Path.{◌≡◌, ap, ◌∙◌, subst}
 use Prim.Native.Nat.{ℕ, ◌/◌, ◌≤◌, ◌<◌}
 use native.Mathlib.Omega.{arith}
-use mathlib.Core.Bool.{true}
 use mathlib.Core.List.{List}
 use lib.ListN.{length, length-take}
 use lib.Ieee.{Float}
@@ -14,20 +13,27 @@ use Rattle.search_cache.specs.AngleArray.{DirectionsStored}
 use Rattle.search_feed.specs.Image.{kept_places}
 use Rattle.search_cache.specs.Cache.{HoldsPass, PassCacheValid, LoadedPass}
 use Rattle.search_cache.specs.declared.pass.Cache.{Cache}
+use Rattle.search_cache.specs.declared.pass.KeptPass.{KeptPass}
+use Rattle.std.specs.Prelude.{Some}
 use Rattle.search_cache.proofs.PassDirections.{loaded_directions}
 
 -- A cache that says that it has this pass is loaded for it.
-pub pass_again : (F : Frame) (h : Cache) (i : ℕ) (places : List ℕ) (geometry : List Float) → PassCacheValid F h places geometry → h.present ≡ true → h.pass ≡ i → LoadedPass F i h places geometry
-pass_again F h i places geometry d y e =
-    let p = rw y at d.pass in
+pub pass_again : (F : Frame) (h : Cache) (i : ℕ) (p : KeptPass) → PassCacheValid F h → h.pass ≡ Some p → p.number ≡ i → LoadedPass F i h
+pass_again F h i p d y e =
+    let q = rw y at d.pass in
     record {
+      held = p;
       yes = y;
       is = e;
-      inside = subst (λ k. k < length F.passes / 3) e p.0;
-      cached = subst (λ k. HoldsPass F k h.kept places geometry) e p.1;
-      places_long = d.places_long;
-      geometry_long = d.geometry_long;
+      inside = subst (λ k. k < length F.passes / 3) e q.0;
+      cached = subst (λ k. HoldsPass F k p.kept h.places h.geometry) e q.1;
     }
+
+-- The count that a cache has of the spots of the pass that it is loaded for.
+pub kept_count : (F : Frame) (i : ℕ) (h : Cache) (p : KeptPass) → LoadedPass F i h → h.pass ≡ Some p → p.kept ≡ length (kept_places F i)
+kept_count F i h p l y =
+    let e : p ≡ l.held = cc (l.yes, y) in
+    ap (λ (z : KeptPass). z.kept) e ∙ l.cached.count
 
 -- No more spots are kept than the number that the kept list is cut to.
 pub kept_most : (c : Float) (spot : ℕ → List Float) (n most r : ℕ) (places : List ℕ) (dirs : List (List Float)) → Kept c spot n most r places dirs → r ≤ most

@@ -1,107 +1,104 @@
 -- What a cache holds that is empty, that is loaded for a pass, or that is loaded for a combination. Assumes nothing.
-use mathlib.Core.Path.{◌≡◌, sym, ◌∙◌, ap, subst}
-use Prim.Native.Nat.{ℕ, ◌+◌, ◌/◌, ◌≤◌, ◌<◌}
+use mathlib.Core.Path.{◌≡◌, sym, ◌∙◌, subst}
+use Prim.Native.Nat.{ℕ, suc, ◌+◌, ◌/◌, ◌≤◌, ◌<◌}
 use native.Mathlib.Omega.{arith}
 use mathlib.Core.List.{List}
 use lib.ListN.{length}
 use lib.Ieee.{Float}
+use Rattle.std.specs.Prelude.{Some}
 use Rattle.combinations.specs.declared.Combination.{Combination}
 use Rattle.combinations.specs.Combinations.{Rising}
 use Rattle.pattern.specs.Directions.{Directions}
-use Rattle.search_cache.specs.AngleArray.{four_at, SameDirections}
+use Rattle.search_cache.specs.AngleArray.{four_at, AnglesCached, SameDirections}
 use Rattle.search_feed.specs.Data.{Frame}
-use Rattle.search_feed.specs.Image.{keys_in, image_at, directions_of}
-use Rattle.search_cache.specs.Cache.{empty_cache, PassIfAny, CombinationIfAny, HoldsPass, HoldsCombination, PassCacheValid, CombinationCacheValid, LoadedPass, LoadedCombination}
+use Rattle.search_feed.specs.Image.{kept_places, directions_of}
+use Rattle.search_cache.specs.Cache.{EmptyCache, HoldsPass, HoldsCombination, PassCacheValid, CombinationCacheValid, LoadedPass, LoadedCombination}
 use Rattle.search_feed.specs.Claims.{FrameFits}
 use Rattle.search_cache.specs.declared.pass.Cache.{Cache}
+use Rattle.search_cache.specs.declared.pass.CombinationKeys.{CombinationKeys}
 use Rattle.search_feed.proofs.KeptSpots.{directions_small}
+use Rattle.search_cache.proofs.AngleArray.{cached_fewer}
+use Rattle.search_cache.proofs.LoadCombination.{rises_wider}
 use Rattle.search_cache.proofs.PassDirections.{cached_directions}
 
 -- The empty cache holds what it says, which is nothing.
-pub empty_pass : (F : Frame) (h : Cache) (places : List ℕ) (geometry : List Float) → h ≡ empty_cache → length places ≡ 64 → length geometry ≡ 2208 → PassCacheValid F h places geometry
-unfolding empty_cache
-empty_pass F h places geometry e p d = record { pass = subst (λ (k : Cache). PassIfAny k.present F k places geometry) (sym e) tt; places_long = p; geometry_long = d }
+pub empty_pass : (F : Frame) (h : Cache) → EmptyCache h → PassCacheValid F h
+empty_pass F h e = record { pass = rw e.pass tt }
 
-pub empty_four : (F : Frame) (h : Cache) (hashes : List ℕ) → h ≡ empty_cache → length hashes ≡ 1024 → CombinationCacheValid F h hashes
-unfolding empty_cache
-empty_four F h hashes e l = record { four = subst (λ (k : Cache). CombinationIfAny k.keyed F k hashes) (sym e) tt; hashes_long = l }
+pub empty_four : (F : Frame) (h : Cache) → EmptyCache h → CombinationCacheValid F h
+empty_four F h e = record { four = rw e.four tt }
 
 -- ---- A cache that is loaded for a pass.
-module _ (F : Frame) (i : ℕ) (h : Cache) (places : List ℕ) (geometry : List Float) (f : LoadedPass F i h places geometry) where
+module _ (F : Frame) (i : ℕ) (h : Cache) (f : LoadedPass F i h) where
   -- A cache that is loaded for a pass holds what it says.
-  pub loaded_pass : PassCacheValid F h places geometry
+  pub loaded_pass : PassCacheValid F h
   loaded_pass =
       record {
-        pass =
-            subst (λ b. PassIfAny b F h places geometry) (sym f.yes)
-            (subst (λ k. k < length F.passes / 3) (sym f.is) f.inside, subst (λ k. HoldsPass F k h.kept places geometry) (sym f.is) f.cached);
-        places_long = f.places_long;
-        geometry_long = f.geometry_long;
+        pass = rw f.yes (subst (λ k. k < length F.passes / 3) (sym f.is) f.inside, subst (λ k. HoldsPass F k f.held.kept h.places h.geometry) (sym f.is) f.cached);
       }
 
-  still_pass : (after : List Float) → SameDirections geometry after → HoldsPass F i h.kept places after
+  still_pass : (after : List Float) → SameDirections h.geometry after → HoldsPass F i f.held.kept h.places after
   still_pass after s =
       record {
         count = f.cached.count;
         places_are = f.cached.places_are;
         directions_are = λ x l. s.directions x (omega (arith, f.cached.angles.few)) ∙ f.cached.directions_are x l;
-        angles = s.cached h.kept f.cached.angles;
+        angles = s.cached f.held.kept f.cached.angles;
       }
 
-  -- Another cache with the same pass and the same count is loaded for that pass too, after angles were looked up.
-  pub same_pass : (g : Cache) (after : List Float) → g.present ≡ h.present → g.pass ≡ h.pass → g.kept ≡ h.kept → SameDirections geometry after → LoadedPass F i g places after
-  same_pass g after a b c s =
+  -- Another cache with the same pass and the same places is loaded for that pass too, after angles were looked up.
+  pub same_pass : (g : Cache) → g.pass ≡ h.pass → g.places ≡ h.places → SameDirections h.geometry g.geometry → LoadedPass F i g
+  same_pass g a b s =
       record {
+        held = f.held;
         yes = a ∙ f.yes;
-        is = b ∙ f.is;
+        is = f.is;
         inside = f.inside;
-        cached = subst (λ k. HoldsPass F i k places after) (sym c) (still_pass after s);
-        places_long = f.places_long;
-        geometry_long = s.long;
+        cached = subst (λ (ps : List ℕ). HoldsPass F i f.held.kept ps g.geometry) (sym b) (still_pass g.geometry s);
       }
 
-  module _ (a : FrameFits F) where
-    pub kept_64 : h.kept ≤ 64
-    kept_64 = f.cached.angles.few
+  -- A pass keeps at most 64 spots.
+  pub kept_64 : length (kept_places F i) ≤ 64
+  kept_64 = omega (arith, f.cached.count, f.cached.angles.few)
 
-    module _ (q : Combination) (r : Rising h.kept q) where
-      pub four_below : (q.a < 64) × (q.b < 64) × (q.c < 64) × (q.d < 64)
-      four_below = (
-        omega (arith, kept_64, r.ab, r.bc, r.cd, r.dn),
-        omega (arith, kept_64, r.bc, r.cd, r.dn),
-        omega (arith, kept_64, r.cd, r.dn),
-        omega (arith, kept_64, r.dn),
-      )
+  module _ (a : FrameFits F) (q : Combination) (r : Rising (length (kept_places F i)) q) where
+    rises : Rising f.held.kept q
+    rises = rw f.cached.count r
 
-      -- The directions in the array are those of the frame.
-      pub four_shown : directions_of F h.pass q ≡ four_at geometry q
-      four_shown = ap (λ k. directions_of F k q) f.is ∙ sym (cached_directions F i h.kept geometry f.cached.directions_are q r)
+    pub four_64 : Rising 64 q
+    four_64 = rises_wider _ 64 q kept_64 r
 
-      -- The directions in the array are within the limits of a direction.
-      pub four_directions : Directions (four_at geometry q)
-      four_directions =
-          subst Directions (sym (cached_directions F i h.kept geometry f.cached.directions_are q r))
-          (directions_small F a i f.inside q (subst (λ k. Rising k q) f.cached.count r))
+    pub four_below : (q.a < 64) × (q.b < 64) × (q.c < 64) × (q.d < 64)
+    four_below = let w = four_64 in (omega (arith, w.ab, w.bc, w.cd, w.dn), omega (arith, w.bc, w.cd, w.dn), omega (arith, w.cd, w.dn), w.dn)
 
-      -- A cache that is loaded for that combination has the number of its keys.
-      pub four_keys : (g : Cache) (hashes : List ℕ) → LoadedCombination F h.pass q g hashes → g.keys ≡ length (keys_in F.config (image_at F i q))
-      four_keys g hashes o = o.cached.count ∙ ap (λ k. length (keys_in F.config (image_at F k q))) f.is
+    -- The angles of the positions up to the last of the combination are cached.
+    pub four_cached : AnglesCached (suc q.d) h.geometry
+    four_cached = cached_fewer _ _ _ rises.dn f.cached.angles
 
--- A cache that is loaded for a combination of its pass holds what it says.
-pub loaded_four : (F : Frame) (i : ℕ) (q : Combination) (h : Cache) (hashes : List ℕ) → LoadedCombination F i q h hashes → h.pass ≡ i → CombinationCacheValid F h hashes
-loaded_four F i q h hashes o e =
-    record {
-      four =
-          subst (λ b. CombinationIfAny b F h hashes) (sym o.yes)
-          (subst (λ k. HoldsCombination F k h.four h.keys h.image hashes) (sym e)
-          (subst (λ k. HoldsCombination F i k h.keys h.image hashes) (sym o.is) o.cached));
-      hashes_long = o.hashes_long;
-    }
+    -- The directions in the array are those of the frame.
+    pub four_shown : directions_of F i q ≡ four_at h.geometry q
+    four_shown = sym (cached_directions F i f.held.kept h.geometry f.cached.directions_are q rises)
 
--- A cache loaded for a combination of pass j is so for pass i where i and j are equal.
-pub at_four : (F : Frame) (i j : ℕ) (q : Combination) (h : Cache) (hashes : List ℕ) → j ≡ i → LoadedCombination F j q h hashes → LoadedCombination F i q h hashes
-at_four F i j q h hashes e o = subst (λ k. LoadedCombination F k q h hashes) e o
+    -- The directions in the array are within the limits of a direction.
+    pub four_directions : Directions (four_at h.geometry q)
+    four_directions = subst Directions four_shown (directions_small F a i f.inside q r)
+
+  -- A cache that is loaded for a combination of its pass holds what it says.
+  pub loaded_four : (q : Combination) → LoadedCombination F i q h → CombinationCacheValid F h
+  loaded_four q o =
+      record {
+        four =
+            rw (o.yes, f.yes)
+            (subst (λ k. HoldsCombination F k o.held.four o.held.keys o.held.image h.hashes) (sym f.is)
+            (subst (λ k. HoldsCombination F i k o.held.keys o.held.image h.hashes) (sym o.is) o.cached));
+      }
+
+-- The keys that a cache has that is loaded for a combination.
+pub keys_held : (F : Frame) (i : ℕ) (q : Combination) (h : Cache) (k : CombinationKeys) → LoadedCombination F i q h → h.four ≡ Some k → HoldsCombination F i q k.keys k.image h.hashes
+keys_held F i q h k o y =
+    let e : o.held ≡ k = cc (o.yes, y) in
+    subst (λ (z : CombinationKeys). HoldsCombination F i q z.keys z.image h.hashes) e o.cached
 
 -- The number after that of a loaded pass is at most the number of passes.
-pub next_pass_inside : (F : Frame) (i : ℕ) (h : Cache) (places : List ℕ) (geometry : List Float) → LoadedPass F i h places geometry → i + 1 ≤ length F.passes / 3
-next_pass_inside F i h places geometry p = omega (arith, p.inside)
+pub next_pass_inside : (F : Frame) (i : ℕ) (h : Cache) → LoadedPass F i h → i + 1 ≤ length F.passes / 3
+next_pass_inside F i h p = omega (arith, p.inside)

@@ -1,5 +1,5 @@
 -- The array of directions and angles that a call keeps: at which index each of them is. Definitions only.
-use Rattle.std.specs.Prelude.{◌≡◌, ℕ, zero, suc, ◌+◌, ◌*◌, ◌≤◌, ◌<◌, true, cond, List, [], ◌∷◌, ◌⊎◌, pos, length, get_or, Float}
+use Rattle.std.specs.Prelude.{◌≡◌, ℕ, zero, suc, ◌+◌, ◌*◌, ◌≤◌, ◌<◌, true, cond, List, [], ◌∷◌, ◌⊎◌, pos, get_or, Float}
 use Rattle.std.specs.Float.{nan, fin}
 use Rattle.std.specs.Float.Ieee.{lt}
 use Rattle.numeric.specs.Value.{zero32}
@@ -48,14 +48,11 @@ four_at m q = direction_at m q.a ∷ direction_at m q.b ∷ direction_at m q.c �
 pub record SameDirections (m m' : List Float) : Type 0 where
   pub directions : (k : ℕ) → k < 64 → direction_at m' k ≡ direction_at m k
   pub cached : (n : ℕ) → AnglesCached n m → AnglesCached n m'
-  -- The array m' has the length that it must have.
-  pub long : length m' ≡ 2208
 
 -- The array m is loaded with the first n of these directions, and with their angles, each unset or worked out.
 pub record DirectionsStored (dirs : List (List Float)) (n : ℕ) (m : List Float) : Type 0 where
   pub directions : (k : ℕ) → k < n → direction_at m k ≡ three_of (get_or dirs k [])
   pub cached : AnglesCached n m
-  pub long : length m ≡ 2208
 
 -- The angle of the directions a and b: `known`, or, where that is below 0, the angle worked out from the directions.
 unfoldable pub known_or : Float → List Float → List Float → Float

@@ -1,30 +1,20 @@
--- What a call keeps in its cache: the kept list of one pass, and the keys of one combination. The arrays beside the struct Cache are `places`
--- (the kept places), `geometry` (directions and angles) and `hashes` (the hashes of the keys). Definitions only.
-use Rattle.std.specs.Prelude.{◌≡◌, ℕ, ◌/◌, ◌<◌, Bool, true, false, List, [], ◌∷◌, length, get_or, take, Float}
-use Rattle.numeric.specs.Value.{zero32}
+-- What a call keeps in its cache: the kept list of one pass, and the keys of one combination. The arrays of the struct Cache are `places` (the kept
+-- places), `geometry` (directions and angles) and `hashes` (the hashes of the keys). Definitions only.
+use Rattle.std.specs.Prelude.{◌≡◌, ℕ, ◌/◌, ◌<◌, List, length, get_or, take, Float, Option, None, Some}
 use Rattle.combinations.specs.declared.Combination.{Combination}
 use Rattle.candidates.specs.declared.entry_tests.Image.{Image}
 use Rattle.search_feed.specs.Data.{Frame}
 use Rattle.search_cache.specs.AngleArray.{direction_at, AnglesCached}
 use Rattle.search_feed.specs.Image.{keys_in, hash_in, spot_of, kept_places, kept_place, image_at}
+use Rattle.search_cache.specs.declared.pass.KeptPass.{KeptPass}
+use Rattle.search_cache.specs.declared.pass.CombinationKeys.{CombinationKeys}
 use Rattle.search_cache.specs.declared.pass.Cache.{Cache}
+use Rattle.search_cache.specs.declared.read.Loaded.{Loaded}
 
--- The image of an empty cache, which is all zero.
-unfoldable pub no_image : Image
-no_image = record { edge = zero32; ratios = zero32 ∷ zero32 ∷ zero32 ∷ zero32 ∷ zero32 ∷ [] }
-
--- The cache that holds nothing.
-unfoldable pub empty_cache : Cache
-empty_cache =
-    record {
-      present = false;
-      pass = 0;
-      kept = 0;
-      keyed = false;
-      four = record { a = 0; b = 0; c = 0; d = 0 };
-      keys = 0;
-      image = no_image;
-    }
+-- The cache holds nothing.
+pub record EmptyCache (h : Cache) : Type 0 where
+  pub pass : h.pass ≡ None
+  pub four : h.four ≡ None
 
 -- The arrays hold the n kept places of pass i, their directions, and the angle of each two of them or that it is not worked out.
 pub record HoldsPass (F : Frame) (i n : ℕ) (places : List ℕ) (geometry : List Float) : Type 0 where
@@ -40,46 +30,50 @@ pub record HoldsCombination (F : Frame) (i : ℕ) (q : Combination) (n : ℕ) (i
   pub hash : (k : ℕ) → k < n → get_or hashes k 0 ≡ hash_in F.config (image_at F i q) k
 
 -- Where a cache says that it is loaded for a pass, the pass exists and the arrays hold it.
-abbrev pub PassIfAny : Bool → Frame → Cache → List ℕ → List Float → Type 0
-PassIfAny true F h places geometry = (h.pass < length F.passes / 3) × HoldsPass F h.pass h.kept places geometry
-PassIfAny false F h places geometry = Unit {0}
+abbrev pub PassIfAny : Option KeptPass → Frame → List ℕ → List Float → Type 0
+PassIfAny (Some p) F places geometry = (p.number < length F.passes / 3) × HoldsPass F p.number p.kept places geometry
+PassIfAny None F places geometry = Unit {0}
 
--- Where a cache says that it is loaded for a combination, the array holds the keys of that combination.
-abbrev pub CombinationIfAny : Bool → Frame → Cache → List ℕ → Type 0
-CombinationIfAny true F h hashes = HoldsCombination F h.pass h.four h.keys h.image hashes
-CombinationIfAny false F h hashes = Unit {0}
+-- Where a cache says that it is loaded for a combination, it is loaded for a pass, and the array holds the keys of that combination of that pass.
+abbrev pub CombinationIfAny : Option CombinationKeys → Option KeptPass → Frame → List ℕ → Type 0
+CombinationIfAny (Some k) (Some p) F hashes = HoldsCombination F p.number k.four k.keys k.image hashes
+CombinationIfAny (Some k) None F hashes = ⊥
+CombinationIfAny None p F hashes = Unit {0}
 
--- The arrays of a pass hold what the cache says, and are as long as they must be: 64 places, and 2208 = 64·3 + 64·63/2 numbers for the
+-- The arrays of a pass hold what the cache says. Their types say how long they are: 64 places, and 2208 = 64·3 + 64·63/2 numbers for the
 -- directions and an angle for each two of them.
-pub record PassCacheValid (F : Frame) (h : Cache) (places : List ℕ) (geometry : List Float) : Type 0 where
-  pub pass : PassIfAny h.present F h places geometry
-  pub places_long : length places ≡ 64
-  pub geometry_long : length geometry ≡ 2208
+pub record PassCacheValid (F : Frame) (h : Cache) : Type 0 where
+  pub pass : PassIfAny h.pass F h.places h.geometry
 
--- The array of a combination holds what the cache says, and has room for 1,024 hashes.
-pub record CombinationCacheValid (F : Frame) (h : Cache) (hashes : List ℕ) : Type 0 where
-  pub four : CombinationIfAny h.keyed F h hashes
-  pub hashes_long : length hashes ≡ 1024
+-- The array of a combination holds what the cache says.
+pub record CombinationCacheValid (F : Frame) (h : Cache) : Type 0 where
+  pub four : CombinationIfAny h.four h.pass F h.hashes
 
 -- The cache is loaded for pass i, which exists.
-pub record LoadedPass (F : Frame) (i : ℕ) (h : Cache) (places : List ℕ) (geometry : List Float) : Type 0 where
+pub record LoadedPass (F : Frame) (i : ℕ) (h : Cache) : Type 0 where
+  pub held : KeptPass
   -- The cache says that it is loaded for a pass.
-  pub yes : h.present ≡ true
+  pub yes : h.pass ≡ Some held
   -- That pass is pass i.
-  pub is : h.pass ≡ i
+  pub is : held.number ≡ i
   -- Pass i exists.
   pub inside : i < length F.passes / 3
   -- The arrays hold pass i.
-  pub cached : HoldsPass F i h.kept places geometry
-  pub places_long : length places ≡ 64
-  pub geometry_long : length geometry ≡ 2208
+  pub cached : HoldsPass F i held.kept h.places h.geometry
 
 -- The cache is loaded for combination q of pass i.
-pub record LoadedCombination (F : Frame) (i : ℕ) (q : Combination) (h : Cache) (hashes : List ℕ) : Type 0 where
+pub record LoadedCombination (F : Frame) (i : ℕ) (q : Combination) (h : Cache) : Type 0 where
+  pub held : CombinationKeys
   -- The cache says that it is loaded for a combination.
-  pub yes : h.keyed ≡ true
+  pub yes : h.four ≡ Some held
   -- That combination is q.
-  pub is : h.four ≡ q
+  pub is : held.four ≡ q
   -- The array holds the keys of combination q of pass i.
-  pub cached : HoldsCombination F i q h.keys h.image hashes
-  pub hashes_long : length hashes ≡ 1024
+  pub cached : HoldsCombination F i q held.keys held.image h.hashes
+
+-- What `load` returns for a read of combination q of pass i: how many spots the pass keeps, how many keys the combination has, and what the frame
+-- shows of the combination.
+pub record LoadedFor (F : Frame) (i : ℕ) (q : Combination) (x : Loaded) : Type 0 where
+  pub kept : x.kept ≡ length (kept_places F i)
+  pub keys : x.keys ≡ length (keys_in F.config (image_at F i q))
+  pub image : x.image ≡ image_at F i q

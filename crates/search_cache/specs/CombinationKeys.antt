@@ -17,4 +17,3 @@ pub record Prepared (c : SearchConfig) (shown : Image) (n : ℕ) (image : Image)
   pub image_is : image ≡ shown
   pub count : n ≡ length (keys_in c shown)
   pub hash : (k : ℕ) → k < n → get_or hashes k 0 ≡ hash_in c shown k
-  pub hashes_long : length hashes ≡ 1024

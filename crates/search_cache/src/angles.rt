@@ -142,7 +142,7 @@ pub fn six_angles(geometry: &mut [f32; 2208], q: Combination) -> [f32; 6]
 // Writes the first n directions to the array.
 fn put_directions(dirs: &[[f32; 3]; 64], n: usize, geometry: &mut [f32; 2208])
     requires { n ≤ 64 }
-    ensures { ((k : ℕ) → k < n → direction_at geometry.new k ≡ three_of (get_or dirs.now k [])) × (length geometry.new ≡ 2208) }
+    ensures { (k : ℕ) → k < n → direction_at geometry.new k ≡ three_of (get_or dirs.now k []) }
 {
     for k in 0..n {
         let v = dirs[k];
@@ -156,7 +156,7 @@ fn put_directions(dirs: &[[f32; 3]; 64], n: usize, geometry: &mut [f32; 2208])
 // Marks the angles of the first n positions as not worked out.
 fn clear_angles(n: usize, geometry: &mut [f32; 2208])
     requires { n ≤ 64 }
-    ensures { AnglesCached n geometry.new × ((k : ℕ) → k < 64 → direction_at geometry.new k ≡ direction_at geometry.old k) × (length geometry.new ≡ 2208) }
+    ensures { AnglesCached n geometry.new × ((k : ℕ) → k < 64 → direction_at geometry.new k ≡ direction_at geometry.old k) }
 {
     let end = row(n);
     geometry[192..end].fill(-1.0);

@@ -1,26 +1,19 @@
 // Loads the cache for a combination of its pass: what the frame shows of the combination, and the hashes of its keys. They are worked out anew
 // only when the combination changes.
-ghost use Rattle.std.specs.Prelude.{◌≡◌, true, length};
+ghost use Rattle.std.specs.Prelude.{◌≡◌, ℕ, suc, true, Some};
 ghost use Rattle.numeric.specs.Ratios.{Ratios};
 ghost use Rattle.pattern.specs.Directions.{Directions};
 ghost use Rattle.combinations.specs.Combinations.{Rising};
 ghost use Rattle.search_cache.specs.AngleArray.{four_at, AnglesCached, SameDirections};
 ghost use Rattle.search_feed.specs.Data.{Frame, settings_ok};
 ghost use Rattle.search_feed.specs.Image.{directions_of};
-ghost use Rattle.search_cache.specs.Cache.{CombinationCacheValid, LoadedCombination};
+ghost use Rattle.search_cache.specs.Cache.{CombinationCacheValid, LoadedPass, LoadedCombination};
 ghost use Rattle.search_cache.specs.CombinationKeys.{image_from, Prepared};
 
-use crate::pass::Cache;
+use crate::pass::{Cache, CombinationKeys};
 use candidates::entry_tests::Image;
 use combinations::Combination;
 use search_feed::SearchConfig;
-
-// What `prepare` makes of a combination: the number of its keys and what the frame shows of it.
-#[derive(Clone, Copy)]
-pub struct CombinationKeys {
-    pub keys: u32,
-    pub image: Image,
-}
 
 // Returns what six angles show: the largest edge and the five ratios.
 fn image_of(angles: [f32; 6]) -> Image
@@ -32,10 +25,16 @@ fn image_of(angles: [f32; 6]) -> Image
     Image { edge, ratios }
 }
 
-// What six angles show, and the hashes of their keys in order, so many of them.
-fn prepare(config: SearchConfig, angles: [f32; 6], hashes: &mut [u64; 1024]) -> CombinationKeys
-    requires { (settings_ok config ≡ true) × Ratios (image_from angles).ratios × (length hashes.old ≡ 1024) }
-    ensures { Prepared config (image_from angles) result.keys result.image hashes.new }
+// What the six angles of a combination show, and the hashes of their keys in order, so many of them.
+fn prepare(
+    config: SearchConfig,
+    four: Combination,
+    angles: [f32; 6],
+    hashes: &mut [u64; 1024],
+) -> CombinationKeys
+    requires { (settings_ok config ≡ true) × Ratios (image_from angles).ratios }
+    ensures keys { Prepared config (image_from angles) result.keys result.image hashes.new }
+    ensures four { result.four ≡ four }
 {
     let image = image_of(angles);
     let ratios = image.ratios;
@@ -43,38 +42,28 @@ fn prepare(config: SearchConfig, angles: [f32; 6], hashes: &mut [u64; 1024]) -> 
     let e = settings::tolerance::max_error(own, config.error, config.bins);
     let n = pattern_keys::key_hashes::key_hashes(ratios, e, config.bins, hashes);
     CombinationKeys {
+        four,
         keys: n as u32,
         image,
     }
 }
 
-// Loads the cache for a combination of the pass that it is loaded for, unless the cache has that combination already, and returns the cache.
-pub fn load_combination(
-    config: SearchConfig,
-    cached: Cache,
-    four: Combination,
-    geometry: &mut [f32; 2208],
-    hashes: &mut [u64; 1024],
-) -> Cache
-    requires { (settings_ok config ≡ true) × Rising cached.kept four × AnglesCached cached.kept geometry.old × Directions (four_at geometry.old four) × (length geometry.old ≡ 2208) × (length hashes.old ≡ 1024) }
-    ensures loaded { (F : Frame) → F.config ≡ config → CombinationCacheValid F cached hashes.old → directions_of F cached.pass four ≡ four_at geometry.old four → LoadedCombination F cached.pass four result hashes.new }
-    ensures rest { (result.present ≡ cached.present) × (result.pass ≡ cached.pass) × (result.kept ≡ cached.kept) × (length hashes.new ≡ 1024) × SameDirections geometry.old geometry.new }
-{
-    if cached.keyed {
-        if cached.four == four {
-            return cached;
+impl Cache {
+    // Loads the cache for a combination of the pass that it is loaded for, unless it has that combination already, and returns its keys.
+    pub fn load_combination(&mut self, config: SearchConfig, four: Combination) -> CombinationKeys
+        requires { (settings_ok config ≡ true) × Rising 64 four × AnglesCached (suc four.d) self.old.geometry × Directions (four_at self.old.geometry four) }
+        ensures loaded { (F : Frame) (i : ℕ) → F.config ≡ config → LoadedPass F i self.old → CombinationCacheValid F self.old → directions_of F i four ≡ four_at self.old.geometry four → LoadedCombination F i four self.new }
+        ensures rest { (self.new.pass ≡ self.old.pass) × (self.new.places ≡ self.old.places) × SameDirections self.old.geometry self.new.geometry }
+        ensures keys { self.new.four ≡ Some result }
+    {
+        if let Some(held) = self.four
+            && held.four == four
+        {
+            return held;
         }
-    }
-    let angles = crate::angles::six_angles(geometry, four);
-    let ready = prepare(config, angles, hashes);
-    let image = ready.image;
-    Cache {
-        present: cached.present,
-        pass: cached.pass,
-        kept: cached.kept,
-        keyed: true,
-        four,
-        keys: ready.keys,
-        image,
+        let angles = crate::angles::six_angles(&mut self.geometry, four);
+        let keys = prepare(config, four, angles, &mut self.hashes);
+        self.four = Some(keys);
+        keys
     }
 }

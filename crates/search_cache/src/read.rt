@@ -1,33 +1,37 @@
 // Loads the cache for a read: for its pass and for its combination.
 ghost use Rattle.std.specs.Prelude.{◌/◌, ◌<◌, length};
 ghost use Rattle.combinations.specs.Combinations.{Rising};
-ghost use Rattle.search_feed.specs.Data.{frame_of};
+ghost use Rattle.search_feed.specs.Lent.{frame_in};
 ghost use Rattle.search_feed.specs.Image.{kept_places};
-ghost use Rattle.search_cache.specs.Cache.{PassCacheValid, CombinationCacheValid, LoadedPass, LoadedCombination};
+ghost use Rattle.search_cache.specs.Cache.{PassCacheValid, CombinationCacheValid, LoadedPass, LoadedCombination, LoadedFor};
 ghost use Rattle.search_feed.specs.Claims.{FrameFits};
 
 use crate::pass::Cache;
-use search_feed::SearchConfig;
+use candidates::entry_tests::Image;
+use search_feed::lent::Frame;
 use undivided_run::state::Position;
 
-// Loads the cache for the read p, and returns it.
-pub fn load(
-    centroids: &[f32],
-    order: &[u32],
-    config: SearchConfig,
-    passes: &[f32],
-    cached: Cache,
-    p: Position,
-    places: &mut [u32; 64],
-    geometry: &mut [f32; 2208],
-    hashes: &mut [u64; 1024],
-) -> Cache
-    requires { FrameFits (frame_of centroids.now order.now config passes.now) × PassCacheValid (frame_of centroids.now order.now config passes.now) cached places.old geometry.old × CombinationCacheValid (frame_of centroids.now order.now config passes.now) cached hashes.old × (p.pass < length passes.now / 3) × Rising (length (kept_places (frame_of centroids.now order.now config passes.now) p.pass)) p.four }
-    ensures { LoadedPass (frame_of centroids.now order.now config passes.now) p.pass result places.new geometry.new × LoadedCombination (frame_of centroids.now order.now config passes.now) p.pass p.four result hashes.new }
-{
-    let loaded = crate::pass::load_pass(
-        centroids, order, config, passes, cached, p.pass, places, geometry,
-    );
-    let four = p.four;
-    crate::combination::load_combination(config, loaded, four, geometry, hashes)
+// What the cache is loaded with for a read: how many spots its pass keeps, how many keys its combination has, and what the frame shows of the
+// combination.
+#[derive(Clone, Copy)]
+pub struct Loaded {
+    pub kept: u32,
+    pub keys: u32,
+    pub image: Image,
+}
+
+impl Cache {
+    // Loads the cache for the read p, and returns what it is loaded with.
+    pub fn load(&mut self, frame: &Frame<'_>, p: Position) -> Loaded
+        requires { FrameFits (frame_in frame.now) × PassCacheValid (frame_in frame.now) self.old × CombinationCacheValid (frame_in frame.now) self.old × (p.pass < length frame.now.passes.now / 3) × Rising (length (kept_places (frame_in frame.now) p.pass)) p.four }
+        ensures { LoadedPass (frame_in frame.now) p.pass self.new × LoadedCombination (frame_in frame.now) p.pass p.four self.new × LoadedFor (frame_in frame.now) p.pass p.four result }
+    {
+        let kept = self.load_pass(frame, p.pass);
+        let keyed = self.load_combination(frame.config, p.four);
+        Loaded {
+            kept,
+            keys: keyed.keys,
+            image: keyed.image,
+        }
+    }
 }

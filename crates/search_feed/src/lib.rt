@@ -9,6 +9,7 @@ ghost use Rattle.search_feed.specs.TableRead.{places_in, made_candidate, evaluat
 
 pub mod lent;
 
+use crate::lent::Table;
 use candidates::entry_tests::{Candidate, Image};
 use combinations::Combination;
 use pattern_entry::stars::StarIndex;
@@ -52,7 +53,7 @@ fn slot_of_probe(hash: u64, c: u32, slots: u64) -> u64
 
 // The places of a combination in the brightness list.
 fn places_at(places: &[u32; 64], q: Combination) -> [Place; 4]
-    requires { (q.a < 64) × (q.b < 64) × (q.c < 64) × (q.d < 64) × (length places.now ≡ 64) }
+    requires { (q.a < 64) × (q.b < 64) × (q.c < 64) × (q.d < 64) }
     ensures { result ≡ places_in places.now q }
 {
     let i = q.a as usize;
@@ -138,22 +139,28 @@ pub fn read_slot(
     hashes: &[u64; 1024],
     config: SearchConfig,
     field: f32,
-    slots: u64,
-    words: &[u64],
-    packed: &[u8],
-    stars: &[f32],
+    table: &Table<'_>,
 ) -> Result<ReadOutcome, Question>
-    requires { (p.key < 1024) × (p.probe < slots) × (p.four.a < 64) × (p.four.b < 64) × (p.four.c < 64) × (p.four.d < 64) × (config.bins ≤ 4096) × (table_fits slots words.now ≡ true) × (length places.now ≡ 64) × (length hashes.now ≡ 1024) }
-    ensures { result ≡ table_read words.now packed.now ((home_of (get_or hashes.now p.key 0) slots + p.probe * p.probe) % slots) (get_or hashes.now p.key 0) (places_in places.now p.four) p.pass image config field stars.now }
+    requires { (p.key < 1024) × (p.probe < table.now.slots) × (p.four.a < 64) × (p.four.b < 64) × (p.four.c < 64) × (p.four.d < 64) × (config.bins ≤ 4096) × (table_fits table.now.slots table.now.words.now ≡ true) }
+    ensures { result ≡ table_read table.now.words.now table.now.packed.now ((home_of (get_or hashes.now p.key 0) table.now.slots + p.probe * p.probe) % table.now.slots) (get_or hashes.now p.key 0) (places_in places.now p.four) p.pass image config field table.now.stars.now }
 {
     let k = p.key as usize;
     let hash = hashes[k];
-    let slot = slot_of_probe(hash, p.probe, slots);
-    let Some(entry) = pattern_catalog::slot_read::find_in(words, packed, slot)? else {
+    let slot = slot_of_probe(hash, p.probe, table.slots);
+    let Some(entry) = pattern_catalog::slot_read::find_in(table.words, table.packed, slot)? else {
         return Ok(ReadOutcome::Empty);
     };
     let four = places_at(places, p.four);
     evaluate_entry(
-        entry, slot, hash, four, p.pass, image, config, field, packed, stars,
+        entry,
+        slot,
+        hash,
+        four,
+        p.pass,
+        image,
+        config,
+        field,
+        table.packed,
+        table.stars,
     )
 }

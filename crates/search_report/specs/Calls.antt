@@ -2,7 +2,8 @@
 use Rattle.std.specs.Prelude.{ℕ, zero, suc, Bool, true, false, cond, Result, Ok, Err}
 use Rattle.question.specs.declared.Question.{Question}
 use Rattle.undivided_run.specs.declared.state.State.{State}
-use Rattle.search_feed.specs.Data.{Data, frame_of, data_of}
+use Rattle.search_feed.specs.Data.{Data}
+use Rattle.search_feed.specs.Lent.{data_in}
 use Rattle.search_report.specs.declared.data.Data.{Data as Lent}
 use Rattle.pattern_search.specs.declared.Answer.{Answer}
 use Rattle.pattern_search.specs.declared.Answer.TheVariants.{Candidate, AllowanceUsed, Ended}
@@ -11,7 +12,7 @@ use Rattle.pattern_search.specs.Demand3.{returned}
 
 -- What a search is fed by the data that it is lent.
 abbrev pub lent : Lent → Data
-lent d = data_of (frame_of d.coords.now d.places.now d.config d.triples.now) d.slots d.words.now d.packed.now d.stars.now
+lent d = data_in d.frame d.table
 
 -- What one call of the search returns, given its data, a state and an allowance.
 abbrev pub called : Data → State → ℕ → Searched

@@ -3,21 +3,14 @@ ghost use Rattle.std.specs.Prelude.{◌≡◌};
 ghost use Rattle.search_report.specs.Calls.{lent, called};
 
 use pattern_search::Searched;
-use search_feed::SearchConfig;
+use search_feed::lent::{Frame, Table};
 use undivided_run::state::State;
 
-// What a search is lent: its settings, its table (slot count, block words, packed section and star slice) and its frame (coordinates,
-// brightness list and pass triples).
+// What a search is lent: a frame and a table.
 #[derive(Clone, Copy)]
 pub struct Data<'a> {
-    pub config: SearchConfig,
-    pub slots: u64,
-    pub words: &'a [u64],
-    pub packed: &'a [u8],
-    pub stars: &'a [f32],
-    pub coords: &'a [f32],
-    pub places: &'a [u32],
-    pub triples: &'a [f32],
+    pub frame: Frame<'a>,
+    pub table: Table<'a>,
 }
 
 impl Data<'_> {
@@ -25,17 +18,6 @@ impl Data<'_> {
     pub fn call(&self, state: State, allowance: u64) -> Searched
         ensures { result ≡ called (lent self.now) state allowance }
     {
-        pattern_search::search(
-            self.coords,
-            self.places,
-            self.config,
-            self.triples,
-            self.slots,
-            self.words,
-            self.packed,
-            self.stars,
-            state,
-            allowance,
-        )
+        pattern_search::search(&self.frame, &self.table, state, allowance)
     }
 }

@@ -8,27 +8,27 @@ use crate::words::{Count, Row};
 impl Data<'_> {
     // Writes how many spots and passes the frame has.
     pub fn frame_line(&self, rt: &impl Print) {
-        let spots = Count(self.places.len() as u64, "spot", "spots");
-        let passes = Count(self.triples.len() as u64 / 3, "pass", "passes");
+        let spots = Count(self.frame.order.len() as u64, "spot", "spots");
+        let passes = Count(self.frame.passes.len() as u64 / 3, "pass", "passes");
         let _ = println!(rt; "{spots}, {passes}");
     }
 
     // Writes the places that thinning keeps in a pass.
     fn thinned(&self, rt: &impl Print, pass: u32)
-        requires order { order_fits self.now.places.now self.now.coords.now ≡ true }
-        requires spots { length self.now.places.now ≤ 256 }
-        requires checking { self.now.config.checking ≤ 64 }
-        requires passes { pass < length self.now.triples.now / 3 }
+        requires order { order_fits self.now.frame.order.now self.now.frame.centroids.now ≡ true }
+        requires spots { length self.now.frame.order.now ≤ 256 }
+        requires checking { self.now.frame.config.checking ≤ 64 }
+        requires passes { pass < length self.now.frame.passes.now / 3 }
     {
-        let p = settings::passes::pass_at(self.triples, pass);
+        let p = settings::passes::pass_at(self.frame.passes, pass);
         let mut kept = [0; 64];
         let mut dirs = [[0.0; 3]; 64];
         let n = thinning::kept_list::thin(
-            self.coords,
-            self.places,
+            self.frame.centroids,
+            self.frame.order,
             p.scale,
             p.cosine,
-            self.config.checking,
+            self.frame.config.checking,
             &mut kept,
             &mut dirs,
         );
@@ -41,10 +41,10 @@ impl Data<'_> {
     pub fn pass_line(&self, rt: &impl Print, pass: u32) {
         let number = u64::from(pass) + 1;
         let _ = print!(rt; "  pass {number}");
-        if self.places.len() <= 256
-            && self.config.checking <= 64
-            && (pass as usize) < self.triples.len() / 3
-            && preprocess::brightness_list::order_fits(self.places, self.coords)
+        if self.frame.order.len() <= 256
+            && self.frame.config.checking <= 64
+            && (pass as usize) < self.frame.passes.len() / 3
+            && preprocess::brightness_list::order_fits(self.frame.order, self.frame.centroids)
         {
             self.thinned(rt, pass);
         }

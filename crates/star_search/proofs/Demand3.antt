@@ -26,7 +26,8 @@ use Rattle.pattern_search.specs.Demand3.{lent_by, returned, answers_of, replies,
 use Rattle.pattern_search.proofs.Answers.{first_asks}
 use Rattle.pattern_search.proofs.Demand3.{listed}
 use Rattle.c_types.specs.State.{unknown, state_of}
-use Rattle.c_types.specs.Answer.{status_number, plain_numbers, state_numbers, candidate_numbers, answer_of}
+use Rattle.undivided_run.specs.StatusNumber.{status_number}
+use Rattle.c_types.specs.Answer.{plain_numbers, state_numbers, candidate_numbers, answer_of}
 use Rattle.star_search.specs.Call.{Call, given_by, answered}
 use Rattle.star_search.specs.Demand3.{answers, last_raw, said_by, numbers_of, found_in, phase_on, SameCalls, ListedThroughC, ListedFromZero}
 use Rattle.star_search.specs.Claims.{next_of, ZeroChangesNothing}

@@ -13,7 +13,7 @@ use Rattle.undivided_run.specs.declared.state.Phase.TheVariants.{Fresh, At, Ende
 use Rattle.undivided_run.specs.declared.state.Status.{Status}
 use Rattle.undivided_run.specs.declared.state.Status.TheVariants.{TooFew, NoMatch, Timeout}
 use Rattle.c_types.specs.State.{position_of, unknown, ended_of, state_of}
-use Rattle.c_types.specs.Answer.{status_number}
+use Rattle.undivided_run.specs.StatusNumber.{status_number}
 use Rattle.c_types.specs.declared.structs.StarState.{StarState}
 
 -- The number of a phase.

@@ -25,7 +25,8 @@ use Rattle.fov_sweep.specs.Sweep.{sweep_fits}
 use Rattle.c_types.specs.Config.{option_of, config_of}
 use Rattle.c_types.specs.State.{state_of}
 use Rattle.c_types.specs.Candidate.{candidate_from}
-use Rattle.c_types.specs.Answer.{status_number, plain_numbers, state_numbers, candidate_numbers}
+use Rattle.undivided_run.specs.StatusNumber.{status_number}
+use Rattle.c_types.specs.Answer.{plain_numbers, state_numbers, candidate_numbers}
 use Rattle.c_types.specs.Results.{opened_number, part_numbers, completed_numbers}
 use Rattle.star_search.specs.Call.{Call, given_by, answered}
 use Rattle.c_types.specs.declared.structs.StarSettings.{StarSettings}

@@ -13,7 +13,8 @@ use Rattle.search_feed.specs.Data.{Data}
 use Rattle.search_feed.specs.Feed.{feed}
 use Rattle.pattern_search.specs.Demand3.{answers_of, replies, last_state, run, AllSame, Opens, on_run}
 use Rattle.c_types.specs.State.{position_of, state_of}
-use Rattle.c_types.specs.Answer.{status_number, plain_numbers, candidate_numbers}
+use Rattle.undivided_run.specs.StatusNumber.{status_number}
+use Rattle.c_types.specs.Answer.{plain_numbers, candidate_numbers}
 use Rattle.c_types.specs.declared.structs.StarState.{StarState}
 use Rattle.c_types.specs.declared.structs.StarCandidate.{StarCandidate}
 use Rattle.c_types.specs.declared.structs.StarAnswer.{StarAnswer}

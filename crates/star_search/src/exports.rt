@@ -17,6 +17,7 @@ use c_types::structs::{
 };
 use candidates::entry_tests::Candidate;
 use search_feed::SearchConfig;
+use search_feed::lent::{Frame, Table};
 use undivided_run::state::State;
 
 // Returns the version of this interface, which is the header's STAR_SEARCH_VERSION, so that a host can compare the two. It is raised
@@ -57,10 +58,20 @@ pub extern "C" fn star_search(
     ensures { result ≡ answered state (record { centroids = centroids.entry.now; order = order.now; settings = settings; passes = passes.now; slots = slots; words = words.now; packed = packed.now; stars = stars.now; allowance = allowance }) }
 {
     let config = SearchConfig::from(settings);
+    let frame = Frame {
+        centroids,
+        order,
+        config,
+        passes,
+    };
+    let table = Table {
+        slots,
+        words,
+        packed,
+        stars,
+    };
     let from = State::from(state);
-    let said = pattern_search::search(
-        centroids, order, config, passes, slots, words, packed, stars, from, allowance,
-    );
+    let said = pattern_search::search(&frame, &table, from, allowance);
     c_types::answer::answer_to_c(state, allowance, said)
 }
 

@@ -5,11 +5,11 @@ use Rattle.std.specs.Float.Ieee.{of_bits}
 use Rattle.stream.specs.Words.{Words, long_of}
 use Rattle.settings.specs.declared.tolerance.Tolerance.{Tolerance}
 use Rattle.settings.specs.declared.tolerance.Tolerance.TheVariants.{Given, Absent}
-use Rattle.undivided_run.specs.Undivided.{Cap}
+use Rattle.undivided_run.specs.Undivided.{Cap, cases}
+use Rattle.undivided_run.specs.StatusNumber.{status_of}
 use Rattle.undivided_run.specs.Step.{start}
 use Rattle.undivided_run.specs.declared.state.Phase.{Phase}
 use Rattle.undivided_run.specs.declared.state.Phase.TheVariants.{Fresh, At, Ended}
-use Rattle.undivided_run.specs.declared.state.Status.TheVariants.{TooFew, NoMatch, Timeout}
 use Rattle.undivided_run.specs.declared.state.Position.{Position}
 use Rattle.undivided_run.specs.declared.state.State.{State}
 use Rattle.search_feed.specs.declared.SearchConfig.{SearchConfig}
@@ -59,12 +59,8 @@ position_of w =
     }
 
 -- The ended state of a payload of kind 5, by the number of its status; none where that is unknown.
-unfoldable pub ended_of : ℕ → Words → Option State
-ended_of status w =
-    cond (eqb status 0) (Some (state_in (Ended TooFew) w))
-    (cond (eqb status 1) (Some (state_in (Ended NoMatch) w))
-    (cond (eqb status 2) (Some (state_in (Ended Timeout) w))
-    None))
+abbrev pub ended_of : ℕ → Words → Option State
+ended_of status w = cases (status_of status) None λ s. Some (state_in (Ended s) w)
 
 -- The state of a payload of kind 5, by the number of its phase; none where that or its status is unknown.
 unfoldable pub state_of : ℕ → Words → Option State

@@ -79,15 +79,12 @@ fn position_of(w: Words) -> Position
 }
 
 // Returns the ended state of a payload of kind 5 by the number of its status, or none where the number is unknown.
-#[tactic(auto, unfolding(crate::specs::Records::ended_of))]
 fn ended_of(status: u32, w: Words) -> Option<State>
     ensures { result ≡ ended_of status w }
 {
-    match status {
-        0 => Some(state_in(Phase::Ended(Status::TooFew), w)),
-        1 => Some(state_in(Phase::Ended(Status::NoMatch), w)),
-        2 => Some(state_in(Phase::Ended(Status::Timeout), w)),
-        _ => None,
+    match Status::try_from(status) {
+        Ok(how) => Some(state_in(Phase::Ended(how), w)),
+        Err(_) => None,
     }
 }
 

@@ -7,6 +7,7 @@ ghost use Rattle.stream.specs.Records.{at_start};
 
 use crate::inputs::start;
 use crate::records::Inputs;
+use search_feed::lent::{Frame, Table};
 
 // What a stream is read into: the inputs that its records have set so far, and the arrays of a table (block words, packed section and star
 // slice) and of a frame (coordinates, brightness list and pass triples), with the room that the format allows.
@@ -92,5 +93,35 @@ impl Lent {
         ensures { result.now ≡ first_of self.now.inputs.frame.triples self.now.triples }
     {
         first_of(&self.triples, self.inputs.frame.triples)
+    }
+
+    // Returns the frame of a search.
+    pub fn frame(&self) -> Frame<'_>
+        ensures centroids { result.centroids.now ≡ first_of self.now.inputs.frame.coords self.now.coords }
+        ensures order { result.order.now ≡ first_of self.now.inputs.frame.places self.now.places }
+        ensures config { result.config ≡ self.now.inputs.config }
+        ensures passes { result.passes.now ≡ first_of self.now.inputs.frame.triples self.now.triples }
+    {
+        Frame {
+            centroids: self.coords(),
+            order: self.places(),
+            config: self.inputs.config,
+            passes: self.triples(),
+        }
+    }
+
+    // Returns the table of a search.
+    pub fn table(&self) -> Table<'_>
+        ensures slots { result.slots ≡ self.now.inputs.table.slots }
+        ensures words { result.words.now ≡ first_of self.now.inputs.table.words self.now.words }
+        ensures packed { result.packed.now ≡ first_of self.now.inputs.table.packed self.now.packed }
+        ensures stars { result.stars.now ≡ first_of self.now.inputs.table.stars self.now.stars }
+    {
+        Table {
+            slots: self.inputs.table.slots,
+            words: self.words(),
+            packed: self.packed(),
+            stars: self.stars(),
+        }
     }
 }

@@ -1,5 +1,6 @@
 pub mod Undivided
 pub mod Calls
+pub mod StatusNumber
 pub mod Moves
 pub mod Step
 pub mod PositionExists

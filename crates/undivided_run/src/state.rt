@@ -1,7 +1,9 @@
 // The search state, and how a position in the search moves on. A position names one read of the table: its pass, combination, key number and
 // probe number. The undivided run and the calls on it are in specs/.
 ghost use Rattle.std.specs.Prelude.{◌≡◌, ◌<◌};
+ghost use Rattle.std.specs.Result.{result_ok};
 ghost use Rattle.undivided_run.specs.Undivided.{reached};
+ghost use Rattle.undivided_run.specs.StatusNumber.{status_number, status_of};
 ghost use Rattle.undivided_run.specs.Step.{start, count_tried, phase_of};
 ghost use Rattle.undivided_run.specs.Moves.{first_of, probed, keyed, at_key, to_combination};
 
@@ -13,6 +15,40 @@ pub enum Status {
     TooFew,
     NoMatch,
     Timeout,
+}
+
+// A number that no status has.
+#[derive(Clone, Copy)]
+pub struct UnknownStatus;
+
+impl From<Status> for u32 {
+    ghost from_gives = { λ status n. n ≡ status_number status };
+
+    // Returns the number of a status.
+    fn from(status: Status) -> u32 {
+        match status {
+            Status::TooFew => 0,
+            Status::NoMatch => 1,
+            Status::Timeout => 2,
+        }
+    }
+}
+
+impl TryFrom<u32> for Status {
+    type Error = UnknownStatus;
+
+    ghost try_from_gives = { λ n status. result_ok status ≡ status_of n };
+
+    // Returns the status with this number.
+    #[tactic(auto, unfolding(crate::specs::StatusNumber::status_of))]
+    fn try_from(number: u32) -> Result<Status, UnknownStatus> {
+        match number {
+            0 => Ok(Status::TooFew),
+            1 => Ok(Status::NoMatch),
+            2 => Ok(Status::Timeout),
+            _ => Err(UnknownStatus),
+        }
+    }
 }
 
 // One read of the table: probe number `probe` of key number `key` of the combination `four` of pass number `pass`.

@@ -1,20 +1,10 @@
-use native.Mathlib.Omega.{arith}
-use borrow.Author.Tests.{ne_eqb}
-use Rattle.c_types.specs.State.{ended_of}
+use mathlib.Core.Path.{sym, ap, ◌∙◌}
+use Rattle.std.specs.Result.{result_ok}
+use Rattle.c_types.proofs.Ended.{ended_known, ended_unknown}
 use Rattle.c_types.proofs.state.ended_of.Goals as goal
 
-pub returns-in-0 : goal.returns-in-0
-unfolding ended_of
-returns-in-0 c = rw c.in-0.is
+pub returns-in-Ok : goal.returns-in-Ok
+returns-in-Ok c = ended_known c.args.status c.args.patterns c.args.reads c.in-Ok.how (sym (ap result_ok c.in-Ok.is) ∙ c.try_from.ensures)
 
-pub returns-in-1 : goal.returns-in-1
-unfolding ended_of
-returns-in-1 c = rw c.in-1.is
-
-pub returns-in-2 : goal.returns-in-2
-unfolding ended_of
-returns-in-2 c = rw c.in-2.is
-
-pub returns-in_default : goal.returns-in_default
-unfolding ended_of
-returns-in_default c = rw (ne_eqb c.args.status 0 (λ e. omega arith), ne_eqb c.args.status 1 (λ e. omega arith), ne_eqb c.args.status 2 (λ e. omega arith), c.unknown_state.ensures)
+pub returns-in-Err : goal.returns-in-Err
+returns-in-Err c = c.unknown_state.ensures ∙ ended_unknown c.args.status c.args.patterns c.args.reads (sym (ap result_ok c.in-Err.is) ∙ c.try_from.ensures)

@@ -7,15 +7,15 @@ use Rattle.fast_path.proofs.probe_chain.is_valid_mismatch.Goals as goal
 pub returns-then-mark_at-mark : goal.returns-then-mark_at-mark
 returns-then-mark_at-mark c =
     let a = c.args in
-    mark_same a.stars.now a.mark (bytes_at a.packed.now a.place) _ c.mark_at.ensures c.if-mark_at-mark.true
+    mark_same a.known.now.table.stars.now a.mark (bytes_at a.known.now.table.packed.now a.place) _ c.mark_at.ensures c.if-mark_at-mark.true
 
 pub returns-then-indices_below_at : goal.returns-then-indices_below_at
 returns-then-indices_below_at c =
     let a = c.args in
-    let e = bytes_at a.packed.now a.place in
-    mark_other a.stars.now a.mark e _ c.mark_at.ensures c.if-mark_at-mark.false _ (below_valid a.stars.now a.valid c.requires.1 e (whole_at a.packed.now a.place c.requires.0) (sym c.indices_below_at.ensures ∙ c.if-indices_below_at.true))
+    let e = bytes_at a.known.now.table.packed.now a.place in
+    mark_other a.known.now.table.stars.now a.mark e _ c.mark_at.ensures c.if-mark_at-mark.false _ (below_valid a.known.now.table.stars.now a.known.now.valid a.known.now.below e (whole_at a.known.now.table.packed.now a.place c.requires) (sym c.indices_below_at.ensures ∙ c.if-indices_below_at.true))
 
 pub returns : goal.returns
 returns c =
     let a = c.args in
-    mark_other a.stars.now a.mark (bytes_at a.packed.now a.place) _ c.mark_at.ensures c.if-mark_at-mark.false _ c.entry_valid_at.ensures
+    mark_other a.known.now.table.stars.now a.mark (bytes_at a.known.now.table.packed.now a.place) _ c.mark_at.ensures c.if-mark_at-mark.false _ c.entry_valid_at.ensures

@@ -1,13 +1,17 @@
 use mathlib.Core.Path.{◌≡◌}
-use Prim.Native.Nat.{◌/◌, ◌<◌}
+use Prim.Native.Nat.{◌-◌, ◌/◌, ◌≤◌, ◌<◌}
 use lib.ListN.{length}
 use Rattle.pattern_catalog.specs.Blocks.{place}
 use Rattle.fast_path.specs.ProbeChain.{along_chain}
+use Rattle.fast_path.specs.declared.probe_chain.ChainResult.TheVariants.{Over}
 use Rattle.fast_path.proofs.probe_chain.probe_chain.Given as goal
 
-abbrev pub invariant-loop-a : goal.invariant-loop-a
-invariant-loop-a l =
-    (l.c < l.slots) × (along_chain l.words l.packed l.stars l.slots l.home l.mark l.a l.c ≡ along_chain l.words l.packed l.stars l.slots l.home l.mark l.allowance l.from) × (l.last < l.slots → (l.there ≡ place l.words l.last) × (l.there < length l.packed / 22))
-
-abbrev pub decreases-loop-a : goal.decreases-loop-a
-decreases-loop-a l = l.a
+abbrev pub invariant-loop-c : goal.invariant-loop-c
+invariant-loop-c l =
+    let T = l.fn.known.table in
+    let along = along_chain T.words.now T.packed.now T.stars.now T.slots l.home l.mark in
+    record {
+      more : l.c < T.slots → along (l.allowance - (l.c - l.from)) l.c ≡ along l.allowance l.from;
+      over : T.slots ≤ l.c → Over (l.c - 1) (l.allowance - (l.c - l.from)) ≡ along l.allowance l.from;
+      near : l.last < T.slots → (l.there ≡ place T.words.now l.last) × (l.there < length T.packed.now / 22);
+    }

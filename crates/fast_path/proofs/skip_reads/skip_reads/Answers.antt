@@ -1,19 +1,18 @@
 use mathlib.Core.Path.{refl, ◌∙◌}
 use native.Mathlib.Omega.{arith}
-use borrow.Author.Tests.{not-true, not-false}
 use Rattle.fast_path.proofs.skip_reads.skip_reads.Goals as goal
 
-pub loop-s-init : goal.loop-s-init
-loop-s-init c = (c.requires.0, c.requires.2, refl)
+pub loop-end-init : goal.loop-end-init
+loop-end-init c = record { key = c.requires.0; probe = c.requires.2; same = refl }
 
-pub skip_step-s-requires : goal.skip_step-s-requires
-skip_step-s-requires c = let l = c.loop-s in (l.invariant.0, c.requires.1, l.invariant.1, c.requires.3, c.requires.4, c.requires.5)
+pub skip_step-requires : goal.skip_step-requires
+skip_step-requires c = let i = c.loop-end.invariant in (i.key, i.probe)
 
-pub returns-then-not-s : goal.returns-then-not-s
-returns-then-not-s c = c.skip_step-s.ensures.off (not-true _ c.if-not-s.true) ∙ c.loop-s.invariant.2
+pub returns-in-Break : goal.returns-in-Break
+returns-in-Break c = c.in-Break.ensures ∙ c.loop-end.invariant.same
 
-pub loop-s-smaller : goal.loop-s-smaller
-loop-s-smaller c = let o = c.skip_step-s.ensures.on (not-false _ c.if-not-s.false) in omega (arith, o.0, o.1)
+pub loop-end-smaller : goal.loop-end-smaller
+loop-end-smaller c = let o = c.in-Continue.ensures in omega (arith, o.later, o.exists)
 
-pub loop-s-preserved : goal.loop-s-preserved
-loop-s-preserved c = let o = c.skip_step-s.ensures.on (not-false _ c.if-not-s.false) in let l = c.loop-s in (o.1, omega (arith, l.invariant.1), o.3 ∙ l.invariant.2)
+pub loop-end-preserved : goal.loop-end-preserved
+loop-end-preserved c = let o = c.in-Continue.ensures in let i = c.loop-end.invariant in record { key = o.exists; probe = omega (arith, i.probe); same = o.same ∙ i.same }

@@ -1,11 +1,13 @@
 use mathlib.Core.Path.{◌≡◌}
-use Prim.Native.Nat.{◌+◌, ◌-◌, ◌<◌}
+use Prim.Native.Nat.{ℕ, ◌+◌, ◌-◌, ◌<◌}
 use Rattle.fast_path.specs.SkipReads.{skipped_reads}
 use Rattle.fast_path.proofs.skip_reads.skip_reads.Given as goal
 
-abbrev pub invariant-loop-s : goal.invariant-loop-s
-invariant-loop-s l =
-    (l.k < l.keys) × (l.c < l.slots) × (skipped_reads l.words l.packed l.stars l.slots l.hashes (l.keys - (l.k + 1)) l.k l.c l.a ≡ skipped_reads l.words l.packed l.stars l.slots l.hashes (l.keys - (l.key + 1)) l.key l.probe l.allowance)
+abbrev pub invariant-loop-end : goal.invariant-loop-end
+invariant-loop-end l =
+    let T = l.fn.table in
+    let skipped = λ (k c a : ℕ). skipped_reads T.words.now T.packed.now T.stars.now T.slots l.hashes (l.keys - (k + 1)) k c a in
+    record { key : l.k < l.keys; probe : l.c < T.slots; same : skipped l.k l.c l.left ≡ skipped l.key l.probe l.allowance }
 
-abbrev pub decreases-loop-s : goal.decreases-loop-s
-decreases-loop-s l = l.keys - l.k
+abbrev pub decreases-loop-end : goal.decreases-loop-end
+decreases-loop-end l = l.keys - l.k

@@ -1,6 +1,6 @@
 use mathlib.Core.Path.{refl, sym, subst, ◌∙◌, ap}
 use native.Mathlib.Omega.{arith}
-use Rattle.fast_path.specs.ValidStars.{ValidBelow}
+use Rattle.fast_path.specs.ValidStars.{ValidBelow, known_count}
 use Rattle.fast_path.specs.declared.valid_stars.ValidStars.{ValidStars}
 use Rattle.fast_path.proofs.ValidStars.{known_below}
 use Rattle.pattern_search.specs.Answers.{searched}
@@ -16,7 +16,7 @@ pub validate_stars-k-requires : goal.validate_stars-k-requires
 validate_stars-k-requires c = c.requires.1
 
 pub iterate-requires : goal.iterate-requires
-iterate-requires c = (c.loop-reply.invariant.1, subst (λ (k : ValidStars). ValidBelow c.args.stars.now k.valid) (sym c.validate_stars-k.ensures) (known_below _ _ _ c.loop-reply.invariant.3))
+iterate-requires c = (c.loop-reply.invariant.1, rw c.count.ensures (subst (λ (k : ValidStars). ValidBelow c.args.table.now.stars.now (known_count k)) (sym c.validate_stars-k.ensures) (known_below _ _ _ c.loop-reply.invariant.3)))
 
 pub loop-reply-smaller : goal.loop-reply-smaller
 loop-reply-smaller c = let t = c.in-Goes.ensures in omega (arith, t.0)
@@ -25,7 +25,7 @@ pub loop-reply-preserved : goal.loop-reply-preserved
 loop-reply-preserved c =
     let t = c.in-Goes.ensures in
     let i = c.loop-reply.invariant in
-    (t.1 ∙ i.0, t.2, omega (arith, t.0, i.2), subst (λ (k : ValidStars). ValidBelow c.args.stars.now k.valid) (sym c.validate_stars-k.ensures) (known_below _ _ _ i.3))
+    (t.1 ∙ i.0, t.2, omega (arith, t.0, i.2), subst (λ (k : ValidStars). ValidBelow c.args.table.now.stars.now (known_count k)) (sym c.validate_stars-k.ensures) (known_below _ _ _ i.3))
 
 pub returns-in-Over : goal.returns-in-Over
 returns-in-Over c = c.in-Over.ensures ∙ ap searched c.loop-reply.invariant.0

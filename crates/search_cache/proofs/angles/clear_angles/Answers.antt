@@ -19,4 +19,4 @@ returns c =
     let few : e ≤ 2208 = omega (arith, c.row-end.ensures, row_inside c.args.n c.requires) in
     let filled : c.fill.new.self ≡ replicate (e - 192) unset = c.fill.ensures.after (λ y h. h) ∙ ap (λ (n : ℕ). replicate n unset) (angles_long m e c.told-geometry few) in
     let f = forgot_all m c.fill.new.self e c.told-geometry (omega (arith, c.row-end.ensures)) few filled in
-    (forgot_cached _ e c.args.n _ c.requires (omega (arith, c.row-end.ensures)) f, f.directions, f.long)
+    (forgot_cached _ e c.args.n _ c.requires (omega (arith, c.row-end.ensures)) f, f.directions)

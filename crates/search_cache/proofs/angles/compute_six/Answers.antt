@@ -14,7 +14,7 @@ keep-requires c =
     let q = c.args.q in
     let m = c.args.geometry.now in
     let six = six_are m q r c.requires.1 _ _ _ c.four_at-v.ensures c.requires.2 c.edge_angles-six.ensures in
-    let s0 = still_same m c.told-geometry in
+    let s0 = still_same m in
     asked_again m _ q.a q.b _ s0 (omega (arith, r.ab, r.bc, r.cd, r.dn)) (omega (arith, r.ab, r.bc, r.cd, r.dn)) (ap (λ (l : List Float). get_or l 0 nan) six)
 
 pub keep-requires-2 : goal.keep-requires-2
@@ -24,7 +24,7 @@ keep-requires-2 c =
     let q = c.args.q in
     let m = c.args.geometry.now in
     let six = six_are m q r c.requires.1 _ _ _ c.four_at-v.ensures c.requires.2 c.edge_angles-six.ensures in
-    let s0 = still_same m c.told-geometry in
+    let s0 = still_same m in
     let s1 = still_on m _ _ s0 c.keep.ensures in
     asked_again m _ q.a q.c _ s1 (omega (arith, r.ab, r.bc, r.cd, r.dn)) (omega (arith, r.ab, r.bc, r.cd, r.dn)) (ap (λ (l : List Float). get_or l 1 nan) six)
 
@@ -35,7 +35,7 @@ keep-requires-3 c =
     let q = c.args.q in
     let m = c.args.geometry.now in
     let six = six_are m q r c.requires.1 _ _ _ c.four_at-v.ensures c.requires.2 c.edge_angles-six.ensures in
-    let s0 = still_same m c.told-geometry in
+    let s0 = still_same m in
     let s1 = still_on m _ _ s0 c.keep.ensures in
     let s2 = still_on m _ _ s1 c.keep-2.ensures in
     asked_again m _ q.a q.d _ s2 (omega (arith, r.ab, r.bc, r.cd, r.dn)) (omega (arith, r.ab, r.bc, r.cd, r.dn)) (ap (λ (l : List Float). get_or l 2 nan) six)
@@ -47,7 +47,7 @@ keep-requires-4 c =
     let q = c.args.q in
     let m = c.args.geometry.now in
     let six = six_are m q r c.requires.1 _ _ _ c.four_at-v.ensures c.requires.2 c.edge_angles-six.ensures in
-    let s0 = still_same m c.told-geometry in
+    let s0 = still_same m in
     let s1 = still_on m _ _ s0 c.keep.ensures in
     let s2 = still_on m _ _ s1 c.keep-2.ensures in
     let s3 = still_on m _ _ s2 c.keep-3.ensures in
@@ -60,7 +60,7 @@ keep-requires-5 c =
     let q = c.args.q in
     let m = c.args.geometry.now in
     let six = six_are m q r c.requires.1 _ _ _ c.four_at-v.ensures c.requires.2 c.edge_angles-six.ensures in
-    let s0 = still_same m c.told-geometry in
+    let s0 = still_same m in
     let s1 = still_on m _ _ s0 c.keep.ensures in
     let s2 = still_on m _ _ s1 c.keep-2.ensures in
     let s3 = still_on m _ _ s2 c.keep-3.ensures in
@@ -74,7 +74,7 @@ keep-requires-6 c =
     let q = c.args.q in
     let m = c.args.geometry.now in
     let six = six_are m q r c.requires.1 _ _ _ c.four_at-v.ensures c.requires.2 c.edge_angles-six.ensures in
-    let s0 = still_same m c.told-geometry in
+    let s0 = still_same m in
     let s1 = still_on m _ _ s0 c.keep.ensures in
     let s2 = still_on m _ _ s1 c.keep-2.ensures in
     let s3 = still_on m _ _ s2 c.keep-3.ensures in
@@ -85,7 +85,7 @@ keep-requires-6 c =
 pub returns : goal.returns
 returns c =
     let m = c.args.geometry.now in
-    let s0 = still_same m c.told-geometry in
+    let s0 = still_same m in
     let s1 = still_on m _ _ s0 c.keep.ensures in
     let s2 = still_on m _ _ s1 c.keep-2.ensures in
     let s3 = still_on m _ _ s2 c.keep-3.ensures in

@@ -6,4 +6,4 @@ pub returns : goal.returns
 returns c =
     let p = c.put_directions.ensures in
     let f = c.clear_angles.ensures in
-    record { directions = λ k l. f.1 k (omega (arith, c.requires)) ∙ p.0 k l; cached = f.0; long = f.2 }
+    record { directions = λ k l. f.1 k (omega (arith, c.requires)) ∙ p k l; cached = f.0 }

@@ -14,4 +14,4 @@ loop-k-preserved c =
 pub returns : goal.returns
 returns c =
     let s = c.loop-k.invariant in
-    (λ k p. s.each k (omega arith), s.long)
+    λ k p. s.each k (omega arith)

@@ -3,4 +3,4 @@ use Rattle.search_cache.proofs.angles.six_angles.Goals as goal
 
 pub returns-then-all_known : goal.returns-then-all_known
 returns-then-all_known c =
-    record { six = six_right c.args.geometry.now c.args.q c.requires.0 c.requires.1 _ c.cached_six-kept.ensures (c.all_known.ensures.known c.if-all_known.true); directions = still_same _ c.told-geometry }
+    record { six = six_right c.args.geometry.now c.args.q c.requires.0 c.requires.1 _ c.cached_six-kept.ensures (c.all_known.ensures.known c.if-all_known.true); directions = still_same _ }

@@ -20,6 +20,6 @@ overflow_cast-result c =
     let h = rw (m, c.max_error-e.ensures) at c.key_hashes-n.ensures.count in
     record { fits = omega (arith, h, k) }
 
-pub returns : goal.returns
-returns c =
+pub returns-clause-keys : goal.returns-clause-keys
+returns-clause-keys c =
     prepared _ _ _ _ _ _ c.image_of-image.ensures c.max_error-e.ensures c.key_hashes-n.ensures

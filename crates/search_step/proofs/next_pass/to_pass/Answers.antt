@@ -8,30 +8,25 @@ use Rattle.search_step.proofs.CacheAfter.{kept_same, kept_loaded}
 use Rattle.search_step.proofs.next_pass.to_pass.Goals as goal
 
 pub overflow_cast-n : goal.overflow_cast-n
-overflow_cast-n c = omega (arith, (passes_fitting c.args.passes.now c.requires.0.five).few)
+overflow_cast-n c = omega (arith, (passes_fitting c.args.frame.now.passes.now c.requires.0.five).few)
 
 pub loop-i-init : goal.loop-i-init
-loop-i-init c = (c.requires.2, refl, λ w p x. refl, kept_same _ _ _ _ c.requires.1)
+loop-i-init c = (c.requires.2, refl, λ w p x. refl, kept_same _ _ c.requires.1)
 
 pub returns-then-reached : goal.returns-then-reached
 returns-then-reached c = record { next = λ w p x. sym (passes_timeout _ _ w p x _ _ _ _ c.loop-i-test.true _ c.reached.ensures c.if-reached.true) ∙ c.loop-i.invariant.2 w p x; caches = c.loop-i.invariant.3 }
 
-pub rebuild_pass-loaded-requires : goal.rebuild_pass-loaded-requires
-rebuild_pass-loaded-requires c =
-    let d = c.loop-i.invariant.3.pass in
-    (c.requires.0, d.places_long, d.geometry_long, c.loop-i-test.true)
+pub rebuild_pass-kept-requires : goal.rebuild_pass-kept-requires
+rebuild_pass-kept-requires c = (c.requires.0, c.loop-i-test.true)
 
 pub start_pass-requires : goal.start_pass-requires
-start_pass-requires c = kept_64 _ _ _ _ _ c.rebuild_pass-loaded.ensures.loaded c.requires.0
+start_pass-requires c = omega (arith, c.rebuild_pass-kept.ensures.count, kept_64 _ _ _ c.rebuild_pass-kept.ensures.loaded)
 
 pub returns-in-First : goal.returns-in-First
-returns-in-First c = record { next = λ w p x. ap Goes c.first_of.ensures ∙ sym (passes_first _ _ w p x _ _ _ _ c.loop-i-test.true _ c.reached.ensures c.if-reached.false _ c.rebuild_pass-loaded.ensures.loaded.cached.count _ c.start_pass.ensures _ c.in-First.is) ∙ c.loop-i.invariant.2 w p x; caches = kept_loaded _ _ _ _ _ _ _ _ _ c.loop-i.invariant.3 c.rebuild_pass-loaded.ensures.loaded (λ l d. c.rebuild_pass-loaded.ensures.combination l d.hashes_long) }
-
-pub overflow_add-i : goal.overflow_add-i
-overflow_add-i c = omega (arith, c.loop-i-test.true, (passes_fitting c.args.passes.now c.requires.0.five).few)
+returns-in-First c = record { next = λ w p x. ap Goes c.first_of.ensures ∙ sym (passes_first _ _ w p x _ _ _ _ c.loop-i-test.true _ c.reached.ensures c.if-reached.false _ c.rebuild_pass-kept.ensures.count _ c.start_pass.ensures _ c.in-First.is) ∙ c.loop-i.invariant.2 w p x; caches = kept_loaded _ _ _ _ c.rebuild_pass-kept.ensures.loaded c.rebuild_pass-kept.ensures.combination }
 
 pub loop-i-preserved : goal.loop-i-preserved
-loop-i-preserved c = (omega (arith, c.loop-i-test.true), refl, λ w p x. passes_past _ _ w p x _ _ _ _ c.loop-i-test.true _ c.reached.ensures c.if-reached.false _ c.rebuild_pass-loaded.ensures.loaded.cached.count _ c.start_pass.ensures _ c.in-Over.is ∙ c.loop-i.invariant.2 w p x, kept_loaded _ _ _ _ _ _ _ _ _ c.loop-i.invariant.3 c.rebuild_pass-loaded.ensures.loaded (λ l d. c.rebuild_pass-loaded.ensures.combination l d.hashes_long))
+loop-i-preserved c = (omega (arith, c.loop-i-test.true), refl, λ w p x. passes_past _ _ w p x _ _ _ _ c.loop-i-test.true _ c.reached.ensures c.if-reached.false _ c.rebuild_pass-kept.ensures.count _ c.start_pass.ensures _ c.in-Over.is ∙ c.loop-i.invariant.2 w p x, kept_loaded _ _ _ _ c.rebuild_pass-kept.ensures.loaded c.rebuild_pass-kept.ensures.combination)
 
 pub returns : goal.returns
 returns c = record { next = λ w p x. sym (passes_end _ _ w p x _ _ _ _ c.loop-i-test.false) ∙ c.loop-i.invariant.2 w p x; caches = c.loop-i.invariant.3 }
