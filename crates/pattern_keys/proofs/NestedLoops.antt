@@ -161,6 +161,18 @@ loop_is (suc n) lo hi k j a i h e p q =
     let g : suc n - 1 ≡ n = omega arith in
     rw (f, g) (with_last_is n lo hi k a i (rw f at p) (rw f at q))
 
+-- There is room for the keys of one more value, where there is room for those of all.
+pub value_room : (n : ℕ) (lo hi k : List ℕ) (a v m at : ℕ) → 0 < n → a ≡ max (get_or lo (5 - n) 0) (get_or k (5 - n - 1) 0) → v < suc (get_or hi (5 - n) 0) → a ≤ v
+    → at ≡ m + length (concat_map (with_last (n - 1) lo hi) (run (5 - n) a (v - a) k)) → m + length (with_last n lo hi k) ≤ 1024
+    → at + length (with_last (n - 1) lo hi (set k (5 - n) v)) ≤ 1024
+value_room n lo hi k a v m at h from below above e r =
+    let most = suc (get_or hi (5 - n) 0) - a in
+    let whole = loop_is n lo hi k (5 - n) a most h refl from refl in
+    let fits : m + length (concat_map (with_last (n - 1) lo hi) (run (5 - n) a most k)) ≤ 1024 = rw whole r in
+    let room = loops_room (with_last (n - 1) lo hi) (5 - n) a (v - a) most k m at (omega arith) e fits in
+    let back : a + (v - a) ≡ v = omega arith in
+    rw back at room
+
 -- ---- the square of a difference
 pub product_below : (d : ℕ) → d ≤ 4096 → d * d ≤ 16777216
 product_below d h = let m = mul-le-mul h h in omega arith

@@ -52,17 +52,17 @@ impl Measured {
 
 // Goes over the values of the first of the last n parts of k, and for each over those of the parts after it. Adds each key to `found`.
 pub fn add_keys(k: [u32; 5], n: usize, ranges: &KeyRange, found: &mut Measured)
-    requires { (n ≤ 5) × Parts k ranges.now.bins × (found.old.count + length (with_last n ranges.now.lo ranges.now.hi k) ≤ 1024) }
+    requires { (0 < n) × (n ≤ 5) × Parts k ranges.now.bins × (found.old.count + length (with_last n ranges.now.lo ranges.now.hi k) ≤ 1024) }
     ensures { Enumerated ranges.now.centre ranges.now.bins found.old.hashes found.old.dist found.new.hashes found.new.dist found.old.count found.new.count (with_last n ranges.now.lo ranges.now.hi k) }
 {
-    if n == 0 {
-        found.push(k, ranges);
-        return;
-    }
     let j = 5 - n;
     for v in ranges.lo[j].max(k[j.saturating_sub(1)])..ranges.hi[j] + 1 {
         let mut x = k;
         x[j] = v;
-        add_keys(x, n - 1, ranges, found);
+        if n == 1 {
+            found.push(x, ranges);
+        } else {
+            add_keys(x, n - 1, ranges, found);
+        }
     }
 }

@@ -10,7 +10,7 @@ use Rattle.pattern_keys.proofs.enumerate.enumerate_key_range.Goals as goal
 pub add_keys-requires : goal.add_keys-requires
 add_keys-requires c =
     let r = c.args.ranges.now in
-    (omega arith, zeros r.hi r.bins r.parts, omega (arith, in_range_length r.lo r.hi r.narrow, ap length (loops_is r.lo r.hi)))
+    (omega arith, omega arith, zeros r.hi r.bins r.parts, omega (arith, in_range_length r.lo r.hi r.narrow, ap length (loops_is r.lo r.hi)))
 
 pub sort-requires : goal.sort-requires
 sort-requires c =
