@@ -1,15 +1,11 @@
--- The candidate that stands in an answer which gives none. Definitions only.
-use Rattle.std.specs.Prelude.{ℕ, false, [], ◌∷◌}
+-- The candidate that stands in the answers for C that give none. Definitions only.
+use Rattle.std.specs.Prelude.{false, [], ◌∷◌}
 use Rattle.numeric.specs.Value.{zero32}
-use Rattle.preprocess.specs.declared.brightness_list.Place.{Place}
+use Rattle.preprocess.specs.BrightnessList.{place_of}
 use Rattle.pattern_entry.specs.Entry.{star}
 use Rattle.candidates.specs.declared.entry_tests.Candidate.{Candidate}
 
--- The place in the brightness list with number p.
-abbrev pub place_of : ℕ → Place
-place_of p = record { 0 = p }
-
--- The candidate where none is given: all its numbers are zero.
+-- The candidate whose numbers are all zero. In Rattle an answer that gives none holds no candidate.
 unfoldable pub no_candidate : Candidate
 no_candidate =
     record {

@@ -23,13 +23,11 @@ pub fn fov_consistent(error: Tolerance, stored: f32, edge: f32, field: f32) -> b
 }
 
 // Whether a star ratio lies strictly inside the tolerance about an image ratio.
+#[tactic(auto, unfolding(crate::specs::Comparisons::inside_one))]
 fn inside_one(ratio: f32, e: f32, x: f32) -> bool
     ensures { result ≡ inside_one ratio e x }
 {
-    if ratio - e < x {
-        return x < ratio + e;
-    }
-    false
+    ratio - e < x && x < ratio + e
 }
 
 // Whether all five do.

@@ -37,7 +37,7 @@ pub struct Candidate {
     pub rebuild: bool,
 }
 
-// Returns the candidate that stands in an answer which gives none: all its numbers are zero.
+// Returns the candidate whose numbers are all zero. It stands in the answers for C that give none; in Rattle such an answer holds no candidate.
 pub fn no_candidate() -> Candidate
     ensures { result ≡ no_candidate }
 {
@@ -53,9 +53,8 @@ pub fn no_candidate() -> Candidate
     }
 }
 
-// Tests an entry: first its mark, then the field of its stored edge, the ratios of its stars, and the measured field. Returns the measured field
-// of an entry that gives a candidate, and none for one that is passed over. `mark` is the mark of
-// the key whose chain is read, `e` the tolerance, `field` the pass's field of view and `error` the field-of-view error.
+// Tests an entry: its mark, its stored edge's field, its stars' ratios, the measured field. Returns that field where it gives a candidate, else none.
+// `mark` is that of the key whose chain is read, `e` the tolerance, `field` the pass's field of view, `error` the field-of-view error.
 pub fn test_entry(
     entry: PatternEntry,
     mark: u16,

@@ -23,7 +23,7 @@ use Rattle.candidates.specs.Comparisons.{fov_consistent, inside_one, inside, reb
 use Rattle.candidates.specs.EntryTests.{measured_of, field_valid, test_of}
 use Rattle.candidates.specs.declared.entry_tests.Candidate.{Candidate}
 use Rattle.undivided_run.specs.declared.state.Position.{Position}
-use Rattle.std.specs.Prelude.{None as NoCap}
+use Rattle.std.specs.Prelude.{None}
 use Rattle.undivided_run.specs.declared.state.Status.TheVariants.{NoMatch}
 use Rattle.undivided_run.specs.Undivided.{Feed, reached, is_zero, is_some, cases, slot_of, filled, gives, chain, reads_of, ended, ◌before◌, checked, combinations, passes_from, undivided}
 use Rattle.undivided_run.specs.Calls.{candidate, over, refused, allowed, refusal, fresh, final_of, serve, machine, calls}
@@ -116,11 +116,11 @@ module _ {E C : Type 0} (kept : ℕ → ℕ) (keys : ℕ → Combination → ℕ
     unfolding reads_of chain each upto span
     of_reads = rw (few, a, b, c, d, e)
 
-    run_of : kept 0 ≡ 4 → undivided G NoCap ≡ record { reads = five; status = NoMatch }
+    run_of : kept 0 ≡ 4 → undivided G None ≡ record { reads = five; status = NoMatch }
     unfolding undivided passes_from checked reached combinations ended ◌before◌ is_zero combination_list combinations_of_sum each upto span
     run_of k = rw (k, of_reads)
 
-pub run_is : undivided F NoCap ≡ record { reads = five; status = NoMatch }
+pub run_is : undivided F None ≡ record { reads = five; status = NoMatch }
 unfolding feed hash_of home_of
 run_is =
     run_of F.kept F.keys F.home F.entry F.test F.valid (ap (λ i. length (keys_in settings i)) image_is ∙ ap length keys_are)
@@ -137,7 +137,7 @@ module _ {C : Type 0} (g : Position → Option C) (x : C) (a : g (at 0 0) ≡ So
   unfolding calls machine serve fresh final_of cases
   on_five = rw (a, b, c, d, e)
 
-pub calls_are : calls (machine (gives F) (undivided F NoCap)) fresh (allowed 1 ∷ refusal 1 ∷ allowed 7 ∷ []) ≡ (candidate given ∷ refused 1 ∷ over NoMatch ∷ [], record { taken = 5; final = Some NoMatch })
+pub calls_are : calls (machine (gives F) (undivided F None)) fresh (allowed 1 ∷ refusal 1 ∷ allowed 7 ∷ []) ≡ (candidate given ∷ refused 1 ∷ over NoMatch ∷ [], record { taken = 5; final = Some NoMatch })
 unfolding hash_of home_of
 calls_are =
     rw run_is

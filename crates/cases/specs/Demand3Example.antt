@@ -6,7 +6,7 @@ use Rattle.std.specs.Float.{fin}
 use Rattle.numeric.specs.Value.{zero32, one32}
 use Rattle.settings.specs.declared.tolerance.Tolerance.TheVariants.{Absent as NoOption}
 use Rattle.candidates.specs.declared.entry_tests.Candidate.{Candidate}
-use Rattle.std.specs.Prelude.{None as NoCap}
+use Rattle.std.specs.Prelude.{None}
 use Rattle.undivided_run.specs.declared.state.Phase.TheVariants.{Ended}
 use Rattle.undivided_run.specs.declared.state.State.{State}
 use Rattle.undivided_run.specs.declared.state.Status.TheVariants.{NoMatch}
@@ -35,7 +35,7 @@ settings =
       radius = zero32;
       matching = NoOption;
       fov = NoOption;
-      cap = NoCap;
+      cap = None;
       patterns = 1;
     }
 

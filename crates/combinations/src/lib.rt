@@ -15,84 +15,97 @@ pub struct Combination {
     pub d: u32,
 }
 
-// Of the combinations with the sum s that begin with a and b, returns the first whose third position is at least c.
-fn with_c(n: u32, s: u32, a: u32, b: u32, c: u32) -> Combination
-    requires { (n ≤ 64) × (s ≤ 256) × (a ≤ 512) × (b ≤ 512) × (c ≤ 512) }
-    ensures { result ≡ with_c n s a b c }
-{
-    let x = c.max((s + 1).saturating_sub(a + b + n));
-    Combination {
-        a: a,
-        b: b,
-        c: x,
-        d: s.saturating_sub(a + b + x),
+// The combinations of n kept spots whose positions have the sum s.
+#[derive(Clone, Copy)]
+struct OfSum {
+    n: u32,
+    s: u32,
+    ghost few: { n ≤ 64 },
+    ghost small: { s ≤ 256 },
+}
+
+impl OfSum {
+    // Of those that begin with a and b, returns the first whose third position is at least c.
+    fn with_c(self, a: u32, b: u32, c: u32) -> Combination
+        requires { (a ≤ 512) × (b ≤ 512) × (c ≤ 512) }
+        ensures { result ≡ with_c self.n self.s a b c }
+    {
+        let x = c.max((self.s + 1).saturating_sub(a + b + self.n));
+        Combination {
+            a: a,
+            b: b,
+            c: x,
+            d: self.s.saturating_sub(a + b + x),
+        }
     }
-}
 
-// Of the combinations with the sum s that begin with a, returns the first whose second position is at least b.
-fn with_b(n: u32, s: u32, a: u32, b: u32) -> Combination
-    requires { (n ≤ 64) × (s ≤ 256) × (a ≤ 500) × (b ≤ 500) }
-    ensures { result ≡ with_b n s a b }
-{
-    let x = b.max((s + 3).saturating_sub(a + 2 * n));
-    with_c(n, s, a, x, x + 1)
-}
-
-// Of the combinations with the sum s, returns the first whose first position is at least a.
-fn with_a(n: u32, s: u32, a: u32) -> Combination
-    requires { (n ≤ 64) × (s ≤ 256) × (a ≤ 400) }
-    ensures { result ≡ with_a n s a }
-{
-    let x = a.max((s + 6).saturating_sub(3 * n));
-    with_b(n, s, x, x + 1)
-}
-
-// Returns the first combination of n kept spots whose sum is s or more.
-fn from_sum(n: u32, s: u32) -> Option<Combination>
-    requires { (n ≤ 64) × (s ≤ 256) }
-    ensures { result ≡ from_sum n s }
-{
-    let t = s.max(6);
-    if t + 10 <= 4 * n {
-        Some(with_a(n, t, 0))
-    } else {
-        None
+    // Of those that begin with a, returns the first whose second position is at least b.
+    fn with_b(self, a: u32, b: u32) -> Combination
+        requires { (a ≤ 500) × (b ≤ 500) }
+        ensures { result ≡ with_b self.n self.s a b }
+    {
+        let x = b.max((self.s + 3).saturating_sub(a + 2 * self.n));
+        self.with_c(a, x, x + 1)
     }
-}
 
-// Returns the first combination with the sum s whose first position is at least a, or, where there is none, the first with a larger sum.
-fn from_a(n: u32, s: u32, a: u32) -> Option<Combination>
-    requires { (n ≤ 64) × (s ≤ 255) × (a ≤ 65) }
-    ensures { result ≡ from_a n s a }
-{
-    let x = a.max((s + 6).saturating_sub(3 * n));
-    if 4 * x + 6 <= s {
-        Some(with_a(n, s, a))
-    } else {
-        from_sum(n, s + 1)
+    // Returns the first whose first position is at least a.
+    fn with_a(self, a: u32) -> Combination
+        requires { a ≤ 400 }
+        ensures { result ≡ with_a self.n self.s a }
+    {
+        let x = a.max((self.s + 6).saturating_sub(3 * self.n));
+        self.with_b(x, x + 1)
     }
-}
 
-// Returns the first combination with the sum s that begins with a and whose second position is at least b, or, where there is none,
-// what `from_a` gives for a + 1.
-fn from_b(n: u32, s: u32, a: u32, b: u32) -> Option<Combination>
-    requires { (n ≤ 64) × (s ≤ 255) × (a ≤ 64) × (b ≤ 65) }
-    ensures { result ≡ from_b n s a b }
-{
-    let x = b.max((s + 3).saturating_sub(a + 2 * n));
-    if a + 3 * x + 3 <= s {
-        Some(with_b(n, s, a, b))
-    } else {
-        from_a(n, s, a + 1)
+    // Returns the first combination of the kept spots whose sum is s or more.
+    fn from_sum(self) -> Option<Combination>
+        ensures { result ≡ from_sum self.n self.s }
+    {
+        let t = self.s.max(6);
+        if t + 10 <= 4 * self.n {
+            Some(OfSum { n: self.n, s: t }.with_a(0))
+        } else {
+            None
+        }
+    }
+
+    // Returns the first whose first position is at least a, or, where there is none, the first combination with a larger sum.
+    fn from_a(self, a: u32) -> Option<Combination>
+        requires { (self.s ≤ 255) × (a ≤ 65) }
+        ensures { result ≡ from_a self.n self.s a }
+    {
+        let x = a.max((self.s + 6).saturating_sub(3 * self.n));
+        if 4 * x + 6 <= self.s {
+            return Some(self.with_a(a));
+        }
+        let larger = OfSum {
+            n: self.n,
+            s: self.s + 1,
+        };
+        larger.from_sum()
+    }
+
+    // Returns the first that begins with a and whose second position is at least b, or, where there is none, what `from_a` gives for a + 1.
+    fn from_b(self, a: u32, b: u32) -> Option<Combination>
+        requires { (self.s ≤ 255) × (a ≤ 64) × (b ≤ 65) }
+        ensures { result ≡ from_b self.n self.s a b }
+    {
+        let x = b.max((self.s + 3).saturating_sub(a + 2 * self.n));
+        if a + 3 * x + 3 <= self.s {
+            Some(self.with_b(a, b))
+        } else {
+            self.from_a(a + 1)
+        }
     }
 }
 
 // Returns the first combination of n kept spots. There is none where n is below 4.
+// Kept: that at most 64 are kept is a clause, here and in search_cache, since the number comes alone.
 pub fn first_combination(n: u32) -> Option<Combination>
     requires { n ≤ 64 }
     ensures { result ≡ first_combination n }
 {
-    from_sum(n, 0)
+    OfSum { n, s: 0 }.from_sum()
 }
 
 impl Combination {
@@ -109,6 +122,10 @@ impl Combination {
                 d: self.d - 1,
             });
         }
-        from_b(kept, self.a + self.b + self.c + self.d, self.a, self.b + 1)
+        let same = OfSum {
+            n: kept,
+            s: self.a + self.b + self.c + self.d,
+        };
+        same.from_b(self.a, self.b + 1)
     }
 }

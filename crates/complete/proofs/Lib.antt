@@ -1,4 +1,3 @@
-pub mod PlacesRise
 pub mod Question14
 pub mod PlacesInside
 pub mod QuestionOrder

@@ -7,52 +7,28 @@ use pattern_entry::stars::StarIndex;
 use preprocess::brightness_list::Place;
 
 // Returns whether the four places rise strictly and the last one is below n.
+#[tactic(auto, unfolding(crate::specs::Question14::places_rise))]
 fn places_rise(places: [Place; 4], n: usize) -> bool
     ensures { result ≡ places_rise places n }
 {
-    let a = places[0];
-    let b = places[1];
-    let c = places[2];
-    let d = places[3];
-    if a.0 >= b.0 {
-        return false;
-    }
-    if b.0 >= c.0 {
-        return false;
-    }
-    if c.0 >= d.0 {
-        return false;
-    }
-    (d.0 as usize) < n
+    let [a, b, c, d] = places;
+    a.0 < b.0 && b.0 < c.0 && c.0 < d.0 && (d.0 as usize) < n
 }
 
 // Question 14: does the pass exist, do the four places rise below the list's length, is the scale above 0 and at most 16?
+#[tactic(auto, unfolding(crate::specs::Question14::candidate_fits))]
 pub fn candidate_fits(order: &[u32], passes: &[f32], candidate: Candidate, scale: f32) -> bool
     ensures { result ≡ candidate_fits order.now passes.now candidate scale }
 {
-    let pass = candidate.pass as usize;
-    if pass >= passes.len() / 3 {
-        return false;
-    }
-    let places = candidate.places;
-    if !places_rise(places, order.len()) {
-        return false;
-    }
-    settings::pass_limits::scale_fits(scale)
+    (candidate.pass as usize) < passes.len() / 3
+        && places_rise(candidate.places, order.len())
+        && settings::pass_limits::scale_fits(scale)
 }
 
 // Question 9 for four stars: does each lie inside the star slice, with components that are finite and of magnitude at most 1?
 pub fn four_valid(stars: &[f32], four: [StarIndex; 4]) -> bool
     ensures { result ≡ four_valid stars.now four }
 {
-    if !pattern_entry::stars::star_valid(stars, four[0]) {
-        return false;
-    }
-    if !pattern_entry::stars::star_valid(stars, four[1]) {
-        return false;
-    }
-    if !pattern_entry::stars::star_valid(stars, four[2]) {
-        return false;
-    }
-    pattern_entry::stars::star_valid(stars, four[3])
+    four.iter()
+        .all(|i| pattern_entry::stars::star_valid(stars, *i))
 }

@@ -8,6 +8,8 @@ ghost use Rattle.fast_path.specs.ValidStars.{ValidBelow};
 ghost use Rattle.fast_path.specs.SlotPeek.{is_valid_mismatch, peek_of, PassedInside};
 ghost use Rattle.fast_path.specs.ProbeChain.{along_chain};
 
+use pattern_catalog::rank::TableSlot;
+use pattern_entry::entry::PackedEntry;
 use search_feed::lent::Table;
 
 // A table that is whole, and the number below which every star of it is valid.
@@ -44,13 +46,17 @@ fn is_valid_mismatch(known: &KnownTable<'_>, mark: u16, place: u64) -> bool
     requires { place * 22 + 22 ≤ length known.now.table.packed.now }
     ensures { result ≡ is_valid_mismatch known.now.table.stars.now mark (bytes_at known.now.table.packed.now place) }
 {
-    if pattern_entry::entry::mark_at(known.table.packed, place) == mark {
+    let entry = PackedEntry {
+        packed: known.table.packed,
+        place,
+    };
+    if entry.mark() == mark {
         return false;
     }
-    if pattern_entry::validity::indices_below_at(known.table.packed, place, known.valid) {
+    if entry.indices_below(known.valid) {
         return true;
     }
-    pattern_entry::validity::entry_valid_at(known.table.stars, known.table.packed, place)
+    entry.is_valid(known.table.stars)
 }
 
 // Looks at a slot and returns what is seen there, with the place of its entry where that is passed over. Where slot `from` isn't past this
@@ -59,13 +65,11 @@ fn peek_slot(known: &KnownTable<'_>, mark: u16, slot: u64, from: u64, there: u64
     requires { (slot / 448 * 8 + 8 ≤ length known.now.table.words.now) × PlaceKnown known.now.table.words.now (length known.now.table.packed.now / 22) slot from there }
     ensures { (result ≡ peek_of known.now.table.words.now known.now.table.packed.now known.now.table.stars.now mark slot) × PassedInside known.now.table.packed.now result }
 {
-    match pattern_catalog::slot_read::find_near(
-        known.table.words,
-        known.table.packed,
-        slot,
-        from,
-        there,
-    ) {
+    let at = TableSlot {
+        words: known.table.words,
+        slot: slot as usize,
+    };
+    match at.find_near(known.table.packed, from as usize, there) {
         Ok(None) => SlotPeek::Empty,
         Err(_) => SlotPeek::Stop,
         Ok(Some(place)) => {
@@ -97,7 +101,7 @@ pub fn probe_chain(
     let mut last = known.table.slots;
     let mut there: u64 = 0;
     for c in from..end {
-        let slot = undivided_run::probing::probe_slot(home, c, probes);
+        let slot = undivided_run::probing::probe_slot(home, c, known.table.slots);
         let left = allowance - (c - from) as u64;
         match peek_slot(&known, mark, slot, last, there) {
             SlotPeek::Stop => return ChainResult::Stops { probe: c, left },

@@ -1,12 +1,10 @@
 // Goes over the reads of a combination that give no candidate, key after key, each along its chain. The entries passed over are valid and
 // give no candidate, and the reads lead on to a read of the same combination.
-ghost use Rattle.std.specs.Prelude.{◌≡◌, true, ◌+◌, ◌-◌, ◌≤◌, ◌<◌, length, take};
-ghost use Rattle.pattern_catalog.specs.Blocks.{table_fits};
-ghost use Rattle.fast_path.specs.ValidStars.{ValidBelow};
+ghost use Rattle.std.specs.Prelude.{◌≡◌, ◌+◌, ◌-◌, ◌≤◌, ◌<◌, length, take};
 ghost use Rattle.fast_path.specs.SkipReads.{skipped_reads};
 
 use crate::probe_chain::{ChainResult, KnownTable};
-use search_feed::lent::Table;
+use pattern_catalog::rank::TableSlot;
 use std::ops::ControlFlow;
 
 // Where skipping ends: the key and probe of the next read of the combination, and what is left of the allowance.
@@ -37,6 +35,7 @@ impl Reads<'_, '_> {
     ghost use Rattle.fast_path.specs.SkipStep.{home_at, FilledKeys, SkipStep, KeyStep};
 
     // Returns the home slot of key k.
+    // Kept: that k is one of the keys is a clause, as for an index; a struct of the reads and a key would be made anew for each key.
     fn home(&self, k: u32) -> u32
         requires { (k < self.now.keys) × (0 < self.now.known.table.slots) }
         ensures { (result ≡ home_at self.now k) × (result < self.now.known.table.slots) }
@@ -78,6 +77,7 @@ impl Reads<'_, '_> {
 
     // Writes those of the keys from `from` to before `to` whose home slot is filled to `found`, and returns their count. What stands after them
     // is left open: each key is written, and only counted where its home slot is filled, which takes no branch.
+    // Kept: fills an array and returns a count, since there is no heap.
     fn filled_keys(&self, from: u32, to: u32, found: &mut [FilledKey; 16]) -> usize
         requires { (from ≤ to) × (to ≤ from + 16) × (to ≤ self.now.keys) × (0 < self.now.known.table.slots) }
         ensures { (result ≤ 16) × FilledKeys self.now from to (take result found.new) }
@@ -86,7 +86,11 @@ impl Reads<'_, '_> {
         for key in from..to {
             let home = self.home(key);
             found[m] = FilledKey { key, home };
-            m += pattern_catalog::blocks::is_filled(self.known.table.words, home as usize) as usize;
+            let slot = TableSlot {
+                words: self.known.table.words,
+                slot: home as usize,
+            };
+            m += slot.is_filled() as usize;
         }
         m
     }
@@ -154,25 +158,22 @@ impl Reads<'_, '_> {
 
 // Goes over the reads of a combination from a key and probe on, key after key, as long as they give no candidate and the allowance lasts.
 // The combination's last read is never made here: the single read makes it and works out what comes after it.
+// Kept: the hashes apart, since the cache that holds them is in a crate above this one.
 pub fn skip_reads(
     key: u32,
     probe: u32,
     keys: u32,
     hashes: &[u64; 1024],
-    table: &Table<'_>,
-    valid: u32,
+    known: &KnownTable<'_>,
     allowance: u64,
 ) -> SkipResult
-    requires { (key < keys) × (keys ≤ 1024) × (probe < table.now.slots) × (table_fits table.now.slots table.now.words.now ≡ true) × ValidBelow table.now.stars.now valid }
-    ensures { result ≡ skipped_reads table.now.words.now table.now.packed.now table.now.stars.now table.now.slots hashes.now (keys - (key + 1)) key probe allowance }
+    requires { (key < keys) × (keys ≤ 1024) × (probe < known.now.table.slots) }
+    ensures { result ≡ skipped_reads known.now.table.words.now known.now.table.packed.now known.now.table.stars.now known.now.table.slots hashes.now (keys - (key + 1)) key probe allowance }
 {
     let reads = Reads {
         keys,
         hashes,
-        known: KnownTable {
-            table: *table,
-            valid,
-        },
+        known: *known,
     };
     let mut k = key;
     let mut c = probe;

@@ -21,19 +21,19 @@ fn record_name(rt: &impl Print, n: u64) {
 
 // Does and reports what record number n asks for, and returns the state that it leaves. Records that ask for a slot read, a sweep or completing
 // a candidate are no searches and are passed over.
-fn report(rt: &impl Print, n: u64, request: Request, lent: &Lent) -> State {
+fn report(rt: &impl Print, n: u64, request: Option<Request>, lent: &Lent) -> State {
     let state = lent.inputs.state;
     let data = data_of(lent);
     match request {
-        Request::Call(allowance) => {
+        Some(Request::Call(allowance)) => {
             record_name(rt, n);
             data.report_call(rt, state, allowance)
         }
-        Request::Run(_) => {
+        Some(Request::Run(_)) => {
             record_name(rt, n);
             data.report_search(rt, state)
         }
-        Request::Open => {
+        Some(Request::Open) => {
             let table = data.table;
             table_line(rt, table.slots, table.words, table.packed, table.stars);
             state

@@ -18,19 +18,11 @@ const PI: f32 = 3.1415927;
 fn sweep_fits(estimate: f32, error: Tolerance, step: f32) -> bool
     ensures { result ≡ sweep_fits estimate error step }
 {
-    if !(0.0 < estimate) {
-        return false;
-    }
-    if !(estimate < PI) {
-        return false;
-    }
-    if !numeric::magnitude::is_finite(step) {
-        return false;
-    }
-    if !(0.0 < step) {
-        return false;
-    }
-    settings::tolerance::option_fits(error)
+    0.0 < estimate
+        && estimate < PI
+        && numeric::magnitude::is_finite(step)
+        && 0.0 < step
+        && settings::tolerance::option_fits(error)
 }
 
 // Returns how far the sweep goes to either side of the estimate: the error cut to at most pi, or 0 where it is absent or not above 0.

@@ -14,7 +14,7 @@ use undivided_run::state::{State, Status};
 struct Line(Searched);
 
 // Returns the name of a status.
-// Kept: replay has the same three names, but below the two are only crates that are burned in, where the oracle's words don't belong.
+// Kept: replay has the same names and much the same `Line`, but below the two are only crates that are burned in, where the oracle's words don't belong.
 fn name_of(status: Status) -> &'static str {
     match status {
         Status::TooFew => "toofew",

@@ -1,7 +1,6 @@
-// Conversions between an f32 and its bit pattern, the patterns of NaNs included, and from four bytes to a number.
+// Conversions between an f32 and its bit pattern, the patterns of NaNs included.
 ghost use Rattle.std.specs.Prelude.{◌≡◌, from_bits, to_bits};
 ghost use Rattle.std.specs.Float.{binary32};
-ghost use Rattle.numeric.specs.Bytes.{word_of};
 
 // Returns the f32 that has the bit pattern n. Every pattern of a NaN gives the one NaN of the definitions.
 pub fn from_bits(n: u32) -> f32
@@ -15,11 +14,4 @@ pub fn to_bits(x: f32) -> u32
     ensures { result ≡ to_bits binary32 x }
 {
     std::num::f32_to_bits_with_nan(x)
-}
-
-// Returns the u32 of which these are the bytes, the lowest byte first (little-endian).
-pub fn u32_from_le_bytes(b: [u8; 4]) -> u32
-    ensures { result ≡ word_of b }
-{
-    u32::from_le_bytes(b)
 }

@@ -1,5 +1,4 @@
-// Helpers on f32 and u64 that the language doesn't supply: larger and smaller of two, magnitude, cutting to a whole number,
-// bit patterns, and the product modulo 2^64.
+// The f32 and u64 helpers that document 01 asks for, each with its own definition; most call std's.
 #![tactic(auto)]
 
 pub mod bits;

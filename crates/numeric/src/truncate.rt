@@ -4,8 +4,7 @@ ghost use Rattle.std.specs.Float.{fin};
 ghost use Rattle.std.specs.Float.Ieee.{to_unsigned, le};
 ghost use Rattle.numeric.specs.Value.{zero32};
 
-// Cuts an x from 0 to 4096 to a whole number. The sum x + 2^23 is rounded to a whole number. Where that number less 2^23 is above x,
-// it is 1 too large.
+// Cuts an x from 0 to 4096 to a whole number: the sum x + 2^23 is rounded, and where that less 2^23 is above x, it is 1 too large.
 // Kept: `std::num::saturating_f32_to_u32` alone takes 38 instructions for such an x, and this takes 15 with the tests before it.
 fn truncate_small(x: f32) -> u32
     requires { T (le zero32 x) × T (le x (fin false 1 (pos 12))) }

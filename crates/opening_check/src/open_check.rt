@@ -5,9 +5,9 @@ ghost use Rattle.opening_check.specs.OpenCheck.{tail_clear, index_right, opening
 ghost use Rattle.opening_check.specs.Shortcuts.{ranks_read, all_valid};
 
 use pattern_catalog::blocks::table_fits;
-use pattern_catalog::count_ones::ones_in;
+use pattern_catalog::count_ones::Block;
+use pattern_entry::entry::PackedEntry;
 use pattern_entry::stars::{every_star_valid, stars_fit};
-use pattern_entry::validity::{entry_valid_at, indices_below_at};
 use question::Question;
 
 // Returns the number of ones of all blocks, or none where some rank is not the number of ones before its block.
@@ -17,11 +17,11 @@ fn ranks_of(words: &[u64], blocks: usize) -> Option<u64>
 {
     let mut seen: u64 = 0;
     for b in 0..blocks {
-        let at = b * 8;
-        if words[at] != seen {
+        let block = Block { words, number: b };
+        if block.rank() != seen {
             return None;
         }
-        seen += ones_in(words, b, 448);
+        seen += block.ones_in(448);
     }
     Some(seen)
 }
@@ -35,8 +35,11 @@ fn tail_clear(words: &[u64], slots: usize) -> bool
     if rest == 0 {
         return true;
     }
-    let b = slots / 448;
-    ones_in(words, b, 448) == ones_in(words, b, rest)
+    let last = Block {
+        words,
+        number: slots / 448,
+    };
+    last.ones_in(448) == last.ones_in(rest)
 }
 
 // Asks question 10: every rank is right, every bit after the last slot is clear, and the section has exactly 22 bytes for each one.
@@ -60,9 +63,9 @@ fn valid_to(packed: &[u8], stars: &[f32], n: u64) -> bool
 {
     if every_star_valid(stars) {
         let count = (stars.len() / 3) as u32;
-        return (0..n).all(|p| indices_below_at(packed, p, count));
+        return (0..n).all(|p| PackedEntry::new(packed, p).indices_below(count));
     }
-    (0..n).all(|p| entry_valid_at(stars, packed, p))
+    (0..n).all(|p| PackedEntry::new(packed, p).is_valid(stars))
 }
 
 // The opening check of a table: refuses it with the first question that is answered no.

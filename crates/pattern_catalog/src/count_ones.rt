@@ -1,7 +1,7 @@
-// Counting the ones of a word and of the slots of a block.
+// A block of the table: its rank, and the ones among its slots.
 ghost use Rattle.std.specs.Prelude.{◌≡◌, ◌+◌, ◌*◌, ◌%◌, ◌^◌, ◌≤◌, ◌<◌, length};
 ghost use Rattle.std.specs.Int.Count.{ones};
-ghost use Rattle.pattern_catalog.specs.Blocks.{ones_in};
+ghost use Rattle.pattern_catalog.specs.Blocks.{ones_in, rank_of};
 
 // Returns the number of ones of a word.
 fn count_ones(w: u64) -> u64
@@ -17,23 +17,6 @@ pub fn ones_below(w: u64, b: u32) -> u64
 {
     let p = 1u64 << b;
     count_ones(w % p)
-}
-
-// Returns the number of ones among the first n slots of a block: in whole words first, and then in what is left of n.
-pub fn ones_in(words: &[u64], block: usize, n: usize) -> u64
-    requires { (block * 8 + 8 ≤ length words.now) × (n ≤ 448) }
-    ensures { result ≡ ones_in words.now (block * 448) n }
-{
-    let first = block * 8 + 1;
-    let whole = n / 64;
-    let mut sum = 0;
-    for k in 0..whole {
-        sum += count_ones(words[first + k]);
-    }
-    if whole == 7 {
-        return sum;
-    }
-    sum + ones_below(words[first + whole], (n % 64) as u32)
 }
 
 // The six values from index 6 - q on are the masks for the first six words of a block where the first q of them count.
@@ -52,26 +35,60 @@ const COUNTED: [u64; 12] = [
     0,
 ];
 
-// Returns the number of ones in the first q words of a block. It looks at six words whatever q is, since a processor can't predict where a loop
-// up to q ends.
-fn ones_in_whole_words(words: &[u64], block: usize, q: usize) -> u64
-    requires { (block * 8 + 8 ≤ length words.now) × (q ≤ 6) }
-    ensures { (result ≡ ones_in words.now (block * 448) (q * 64)) × (result ≤ 384) }
-{
-    let first = block * 8 + 1;
-    let masks = COUNTED;
-    let mut sum = 0;
-    for k in 0..6 {
-        sum += count_ones(words[first + k] & masks[6 - q + k]);
-    }
-    sum
+// A block of a table, by its number, with all its words among these.
+#[derive(Clone, Copy)]
+pub struct Block<'a> {
+    pub words: &'a [u64],
+    pub number: usize,
+    ghost inside: { number * 8 + 8 ≤ length words.now },
 }
 
-// Returns the number of ones below slot n of a block.
-pub fn ones_below_slot(words: &[u64], block: usize, n: usize) -> u64
-    requires { (block * 8 + 8 ≤ length words.now) × (n < 448) }
-    ensures { result ≡ ones_in words.now (block * 448) n }
-{
-    let at = block * 8 + 1 + n / 64;
-    ones_in_whole_words(words, block, n / 64) + ones_below(words[at], (n % 64) as u32)
+impl Block<'_> {
+    // Returns the block's rank, which is its first word.
+    pub fn rank(&self) -> u64
+        ensures { result ≡ rank_of self.now.words.now self.now.number }
+    {
+        self.words[self.number * 8]
+    }
+
+    // Returns the number of ones among the first n slots: in whole words first, and then in what is left of n.
+    pub fn ones_in(&self, n: usize) -> u64
+        requires { n ≤ 448 }
+        ensures { result ≡ ones_in self.now.words.now (self.now.number * 448) n }
+    {
+        let first = self.number * 8 + 1;
+        let whole = n / 64;
+        let mut sum = 0;
+        for k in 0..whole {
+            sum += count_ones(self.words[first + k]);
+        }
+        if whole == 7 {
+            return sum;
+        }
+        sum + ones_below(self.words[first + whole], (n % 64) as u32)
+    }
+
+    // Returns the number of ones in the first q words. It looks at six words whatever q is, since a processor can't predict where a loop up to
+    // q ends.
+    fn ones_in_whole_words(&self, q: usize) -> u64
+        requires { q ≤ 6 }
+        ensures { (result ≡ ones_in self.now.words.now (self.now.number * 448) (q * 64)) × (result ≤ 384) }
+    {
+        let first = self.number * 8 + 1;
+        let masks = COUNTED;
+        let mut sum = 0;
+        for k in 0..6 {
+            sum += count_ones(self.words[first + k] & masks[6 - q + k]);
+        }
+        sum
+    }
+
+    // Returns the number of ones below slot n of the block.
+    pub fn ones_below_slot(&self, n: usize) -> u64
+        requires { n < 448 }
+        ensures { result ≡ ones_in self.now.words.now (self.now.number * 448) n }
+    {
+        let at = self.number * 8 + 1 + n / 64;
+        self.ones_in_whole_words(n / 64) + ones_below(self.words[at], (n % 64) as u32)
+    }
 }

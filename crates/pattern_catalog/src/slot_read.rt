@@ -1,12 +1,10 @@
-// The slot read of the pattern table: the place of a slot's entry, whether the slot is filled, and the entry's own bytes.
-ghost use Rattle.std.specs.Prelude.{◌≡◌, ◌+◌, ◌*◌, ◌/◌, ◌≤◌, length};
+// The slot read of the pattern table, by the slot's number: the place of the slot's entry, whether the slot is filled, and the entry's own bytes.
+ghost use Rattle.std.specs.Prelude.{◌≡◌, ◌+◌, ◌*◌, ◌≤◌, length};
 ghost use Rattle.pattern_catalog.specs.Answers.{found_says, slot_says};
-ghost use Rattle.pattern_catalog.specs.SlotRead.{slot_in, slot_read, section_part, part_start};
-ghost use Rattle.pattern_catalog.specs.SlotPlace.{found_by, PlaceKnown};
-ghost use Rattle.pattern_catalog.specs.Rank.{ranked_at};
+ghost use Rattle.pattern_catalog.specs.SlotRead.{slot_read, section_part, part_start};
 
-use crate::blocks::{is_filled, table_fits};
-use crate::rank::{block_rank, near_rank};
+use crate::blocks::table_fits;
+use crate::rank::TableSlot;
 use question::Question;
 
 // What a slot holds.
@@ -14,61 +12,6 @@ use question::Question;
 pub enum Slot {
     Filled,
     Empty,
-}
-
-// Returns what the read of a filled slot finds: the place of its entry, or a refusal with question 9 where the place is outside the section.
-fn placed(place: Option<u64>) -> Result<Option<u64>, Question>
-    ensures { found_says result ≡ found_by place }
-{
-    let inside = place.ok_or(Question::EntryAndStars)?;
-    Ok(Some(inside))
-}
-
-// Reads a slot whose block is in the word slice: gives the place of its entry, or none where it is empty. If the slot is filled, it asks
-// question 9 for the section.
-pub fn find_in(words: &[u64], packed: &[u8], slot: u64) -> Result<Option<u64>, Question>
-    requires { slot / 448 * 8 + 8 ≤ length words.now }
-    ensures { found_says result ≡ slot_in words.now packed.now slot }
-{
-    let s = slot as usize;
-    if !is_filled(words, s) {
-        return Ok(None);
-    }
-    let entries = (packed.len() / 22) as u64;
-    placed(block_rank(words, s, entries))
-}
-
-// Returns the place of the slot's entry, counted on from the place of the slot `from` where both are in one word.
-fn rank_from(words: &[u64], slot: usize, entries: u64, from: usize, there: u64) -> Option<u64>
-    requires { (slot / 448 * 8 + 8 ≤ length words.now) × PlaceKnown words.now 9223372036854775808 slot from there }
-    ensures { result ≡ ranked_at words.now slot entries }
-{
-    if from <= slot {
-        if from / 64 == slot / 64 {
-            return near_rank(words, slot, entries, from, there);
-        }
-    }
-    block_rank(words, slot, entries)
-}
-
-// Reads a slot like `find_in`, but is given the place `there` of the slot `from`, which is used if that slot is in the same word and not after
-// this one.
-pub fn find_near(
-    words: &[u64],
-    packed: &[u8],
-    slot: u64,
-    from: u64,
-    there: u64,
-) -> Result<Option<u64>, Question>
-    requires { (slot / 448 * 8 + 8 ≤ length words.now) × PlaceKnown words.now (length packed.now / 22) slot from there }
-    ensures { found_says result ≡ slot_in words.now packed.now slot }
-{
-    let s = slot as usize;
-    if !is_filled(words, s) {
-        return Ok(None);
-    }
-    let entries = (packed.len() / 22) as u64;
-    placed(rank_from(words, s, entries, from as usize, there))
 }
 
 // The slot read: it asks questions 6 and 11, and then 9 for the section only.
@@ -81,7 +24,11 @@ pub fn find(slots: u64, words: &[u64], packed: &[u8], slot: u64) -> Result<Optio
     if slot >= slots {
         return Err(Question::SlotNumber);
     }
-    find_in(words, packed, slot)
+    let at = TableSlot {
+        words,
+        slot: slot as usize,
+    };
+    at.find_in(packed)
 }
 
 // Tells what the slot holds.

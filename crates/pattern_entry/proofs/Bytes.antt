@@ -6,9 +6,7 @@ use native.Mathlib.Omega.{arith}
 use native.Mathlib.Nat.{add_assoc}
 use lib.ListN.{length, get_or, take, drop, length-take, length-drop}
 use lib.Seq.{get_or-take, get_or-drop}
-use lib.Ieee.{Float}
-use Rattle.pattern_entry.specs.Entry.{bytes_at, half_at, mark_in, star}
-use Rattle.pattern_entry.specs.declared.entry.PatternEntry.{PatternEntry}
+use Rattle.pattern_entry.specs.Entry.{bytes_at, half_at, mark_in}
 
 -- A byte past the end is 0.
 pub past_end : (s : List ℕ) (i : ℕ) → length s ≤ i → get_or s i 0 ≡ 0
@@ -37,8 +35,3 @@ mark_is packed p =
     let a : get_or (bytes_at packed p) 20 0 ≡ get_or packed (p * 22 + 20) 0 = byte_at packed p 20 (omega arith) in
     let b : get_or (bytes_at packed p) 21 0 ≡ get_or packed (p * 22 + 20 + 1) 0 = byte_at packed p 21 (omega arith) ∙ ap (λ (i : ℕ). get_or packed i 0) (sym (add_assoc (p * 22) 20 1)) in
     ap₂ (λ (x y : ℕ). x + y * 0x100) (sym a) (sym b)
-
--- Two entries that are equal field by field are equal.
-pub same_entry : {a b c d a' b' c' d' m m' : ℕ} {x x' : Float} → a ≡ a' → b ≡ b' → c ≡ c' → d ≡ d' → x ≡ x' → m ≡ m'
-    → ◌≡◌ {A = PatternEntry} (record { stars = star a ∷ star b ∷ star c ∷ star d ∷ []; edge = x; mark = m }) (record { stars = star a' ∷ star b' ∷ star c' ∷ star d' ∷ []; edge = x'; mark = m' })
-same_entry p q r s t u = cc

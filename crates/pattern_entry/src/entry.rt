@@ -59,20 +59,36 @@ pub fn read_packed(e: &[u8]) -> PatternEntry
     }
 }
 
-// Returns the bytes of the entry at a place inside the section.
-pub fn bytes_at(packed: &[u8], place: u64) -> &[u8]
-    requires { place * 22 + 22 ≤ length packed.now }
-    ensures { result.now ≡ bytes_at packed.now place }
-{
-    let at = place as usize * 22;
-    &packed[at..at + 22]
+// An entry by its place in the packed section, with all its bytes inside the section.
+#[derive(Clone, Copy)]
+pub struct PackedEntry<'a> {
+    pub packed: &'a [u8],
+    pub place: u64,
+    ghost inside: { place * 22 + 22 ≤ length packed.now },
 }
 
-// Returns the mark of the entry at a place inside the section.
-pub fn mark_at(packed: &[u8], place: u64) -> u16
-    requires { place * 22 + 22 ≤ length packed.now }
-    ensures { result ≡ mark_in (bytes_at packed.now place) }
-{
-    let at = place as usize * 22 + 20;
-    u16::from_le_bytes([packed[at], packed[at + 1]])
+impl<'a> PackedEntry<'a> {
+    // Returns the entry at a place. A closure takes over what a call requires, but would have to write it for a struct expression.
+    pub fn new(packed: &'a [u8], place: u64) -> PackedEntry<'a>
+        requires { place * 22 + 22 ≤ length packed.now }
+        ensures { (result.packed.now ≡ packed.now) × (result.place ≡ place) }
+    {
+        PackedEntry { packed, place }
+    }
+
+    // Returns the entry's bytes.
+    pub fn bytes(&self) -> &'a [u8]
+        ensures { result.now ≡ bytes_at self.now.packed.now self.now.place }
+    {
+        let at = self.place as usize * 22;
+        &self.packed[at..at + 22]
+    }
+
+    // Returns the entry's mark.
+    pub fn mark(&self) -> u16
+        ensures { result ≡ mark_in (bytes_at self.now.packed.now self.now.place) }
+    {
+        let at = self.place as usize * 22 + 20;
+        u16::from_le_bytes([self.packed[at], self.packed[at + 1]])
+    }
 }

@@ -1,13 +1,13 @@
 -- The hashes of the codes by doubling: for n = 1, 2, 4, 8 and 16, the codes from n to 2 n - 1 are those below n with one part more one above its
 -- lower end. Assumes nothing.
-use mathlib.Core.Path.{◌≡◌, refl, sym, ap, ◌∙◌, subst}
+use mathlib.Core.Path.{◌≡◌, sym, ◌∙◌, subst}
 use mathlib.Core.Logic.{inl, inr}
 use mathlib.Core.List.{List}
 use Prim.Native.Nat.{ℕ, ◌+◌, ◌-◌, ◌*◌, ◌/◌, ◌%◌, ◌^◌, ◌≤◌, ◌<◌}
 use native.Mathlib.Omega.{arith}
 use native.Mathlib.Nat.{mul-le-mul, pow-zero, pow-suc}
 use lib.ListN.{length, get_or, set, length-set}
-use lib.Seq.{get_or-set_same, get_or-set_other}
+use lib.Seq.{get_or-set_same}
 use Rattle.numeric.proofs.Order.{lt_or_le}
 use Rattle.pattern.specs.Key.{hash_of}
 use Rattle.pattern_keys.specs.Codes.{key_of_code}
@@ -18,24 +18,6 @@ pub record Half (before after : List ℕ) (n v i : ℕ) : Type 0 where
   pub same : (j : ℕ) → j < n → get_or after j 0 ≡ get_or before j 0
   pub more : (j : ℕ) → j < i → get_or after (n + j) 0 ≡ get_or before j 0 + v
   pub long : length after ≡ 32
-
-pub half_none : (a : List ℕ) (n v : ℕ) → length a ≡ 32 → Half a a n v 0
-half_none a n v h = record { same = λ j p. refl; more = λ j p. absurd (omega arith); long = h }
-
-pub half_more : (before after : List ℕ) (n v i : ℕ) → i < n → n ≤ 16 → Half before after n v i → Half before (set after (n + i) (get_or after i 0 + v)) n v (i + 1)
-half_more before after n v i h k t =
-    let l = t.long in
-    let x = get_or after i 0 + v in
-    record {
-      same = λ j p. get_or-set_other after (n + i) j x 0 (λ e. omega arith) ∙ t.same j p;
-      more = λ j p. elim (lt_or_le j i) [
-        | inl q ↦ get_or-set_other after (n + i) (n + j) x 0 (λ e. omega arith) ∙ t.more j q
-        | inr q ↦
-            let e : j ≡ i = omega arith in
-            subst (λ (y : ℕ). get_or (set after (n + i) x) (n + y) 0 ≡ get_or before y 0 + v) (sym e) (get_or-set_same after (n + i) x 0 (omega arith) ∙ ap (λ (y : ℕ). y + v) (t.same i h))
-      ];
-      long = length-set after (n + i) x ∙ l;
-    }
 
 -- ---- the hash of a code: that of the lower ends, and the weight of its bits
 abbrev weight : ℕ → ℕ → ℕ
@@ -76,7 +58,7 @@ pub record Powers (B : ℕ) : Type 0 where
   pub three : B ^ 3 ≡ B * B * B
   pub four : B ^ 4 ≡ B * B * (B * B)
 
-powers : (B : ℕ) → Powers B
+pub powers : (B : ℕ) → Powers B
 powers B =
     let p0 : B ^ 0 ≡ 1 = pow-zero B in
     let p1 : B ^ 1 ≡ B ^ 0 * B = pow-suc B 0 in

@@ -4,17 +4,18 @@ use mathlib.Core.Path.{◌≡◌, refl, sym, ap, ◌∙◌, subst}
 use mathlib.Core.Logic.{inl, inr}
 use Prim.Native.Nat.{ℕ, zero, suc, ◌+◌, ◌-◌, ◌*◌, ◌≤◌, ◌<◌, max}
 use native.Mathlib.Omega.{arith}
-use native.Mathlib.Nat.{mul-le-mul}
+use native.Mathlib.Nat.{mul-le-mul, sub_self}
 use mathlib.Core.List.{List, [], ◌∷◌, ◌++◌, map}
 use lib.ListN.{length, get_or, set, length-set, length-append, length-map, get_or-append}
 use lib.Seq.{get_or-set_same, get_or-set_other, get_or-append-add, get_or-take}
 use Rattle.numeric.proofs.Order.{lt_or_le}
 use Rattle.pattern.specs.Key.{hash_of, Parts}
-use Rattle.pattern_keys.specs.Keys.{concat_map, run, part_values, start, in_range, squared_distance, keys_of}
+use Rattle.pattern_keys.specs.Keys.{concat_map, run, part_values, start, in_range, squared_difference, squared_distance, keys_of}
 use Rattle.pattern_keys.specs.Listed.{Listed}
 use Rattle.pattern_keys.specs.DistanceSort.{by_distance}
 use Rattle.pattern_keys.specs.DistanceSortSteps.{Narrow, Holds, Near}
 use Rattle.pattern_keys.proofs.Lists.{concat_map_append, concat_map_one, run_more, part_values_run}
+use Rattle.pattern_keys.proofs.CodeSums.{powers}
 use Rattle.pattern_keys.proofs.KeyCount.{in_range_length}
 use Rattle.pattern_keys.proofs.NarrowRanges.{measured_near, by_distance_keys}
 use Rattle.pattern_keys.specs.EnumerateSteps.{Hashed}
@@ -172,6 +173,27 @@ value_room n lo hi k a v m at h from below above e r =
     let room = loops_room (with_last (n - 1) lo hi) (5 - n) a (v - a) most k m at (omega arith) e fits in
     let back : a + (v - a) ≡ v = omega arith in
     rw back at room
+
+-- ---- the last part of a key
+-- A key's hash is that of the key without its last part, and bins^4 for each of the last part's values.
+pub hash_last : (k : List ℕ) (B v : ℕ) → length k ≡ 5 → hash_of (set k 4 v) B ≡ hash_of (set k 4 0) B + v * (B * B * (B * B))
+unfolding hash_of
+hash_last [] B v h = absurd (omega arith)
+hash_last (a ∷ []) B v h = absurd (omega arith)
+hash_last (a ∷ b ∷ []) B v h = absurd (omega arith)
+hash_last (a ∷ b ∷ c ∷ []) B v h = absurd (omega arith)
+hash_last (a ∷ b ∷ c ∷ d ∷ []) B v h = absurd (omega arith)
+hash_last (a ∷ b ∷ c ∷ d ∷ e ∷ k) B v h = rw (powers B).four (omega arith)
+
+-- A key's squared distance is that of the key whose last part is the image key's, and the square of the last part's difference.
+pub distance_last : (c k : List ℕ) (u v : ℕ) → length k ≡ 5 → squared_distance c (set k 4 v) ≡ squared_distance c (set (set k 4 u) 4 (get_or c 4 0)) + squared_difference (get_or c 4 0) v
+unfolding squared_distance squared_difference
+distance_last c [] u v h = absurd (omega arith)
+distance_last c (a ∷ []) u v h = absurd (omega arith)
+distance_last c (a ∷ b ∷ []) u v h = absurd (omega arith)
+distance_last c (a ∷ b ∷ d ∷ []) u v h = absurd (omega arith)
+distance_last c (a ∷ b ∷ d ∷ e ∷ []) u v h = absurd (omega arith)
+distance_last c (a ∷ b ∷ d ∷ e ∷ f ∷ k) u v h = rw (sub_self (get_or c 4 0)) (omega arith)
 
 -- ---- the square of a difference
 pub product_below : (d : ℕ) → d ≤ 4096 → d * d ≤ 16777216

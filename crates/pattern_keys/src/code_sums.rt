@@ -1,5 +1,4 @@
 // The hash of each of the 32 codes. It is the hash of the lower ends, with bins^i added for each part i that is one above its lower end.
-ghost use Rattle.std.specs.Prelude.{◌≡◌};
 ghost use Rattle.pattern.specs.Key.{Parts};
 ghost use Rattle.pattern_keys.specs.TwoValuesSteps.{Doubled, Room, Sums};
 

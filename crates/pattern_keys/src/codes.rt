@@ -1,5 +1,5 @@
 // The order of the 32 codes around a code, and the list of the valid codes' hashes in that order.
-ghost use Rattle.std.specs.Prelude.{◌≡◌, [], ◌∷◌, ◌+◌, ◌-◌, ◌≤◌, ◌<◌, length, get_or};
+ghost use Rattle.std.specs.Prelude.{◌≡◌, [], ◌∷◌, ◌+◌, ◌-◌, ◌≤◌, ◌<◌, get_or};
 ghost use Rattle.pattern_keys.specs.Codes.{code_of, chosen, Pairs};
 ghost use Rattle.pattern_keys.specs.CodeOrder.{unpack, ones, twos, codes_around};
 ghost use Rattle.pattern_keys.specs.TwoValuesSteps.{Put};

@@ -3,6 +3,7 @@
 ghost use Rattle.pattern_keys.specs.Keys.{keys_of};
 ghost use Rattle.pattern_keys.specs.EnumerateSteps.{Hashed};
 
+use crate::distance_sort::NearKeys;
 use crate::key_range::KeyRange;
 use crate::nested_loops::Measured;
 
@@ -17,5 +18,5 @@ pub fn enumerate_key_range(ranges: &KeyRange, out: &mut [u64; 1024]) -> usize
         count: 0,
     };
     crate::nested_loops::add_keys([0; 5], 5, ranges, &mut found);
-    crate::distance_sort::sort(&found.hashes, &found.dist, found.count, out)
+    NearKeys { keys: &found }.sort(out)
 }

@@ -8,6 +8,8 @@ ghost use Rattle.pattern_keys.specs.KeyBounds.{lower_of, upper_of};
 ghost use Rattle.pattern_keys.specs.KeyRange.{Inside};
 ghost use Rattle.pattern_keys.specs.TwoValues.{two_at_most};
 
+use crate::key_bounds::KeyTolerance;
+
 // The image key, with the lower and the upper end of the range of each part, for a number of bins. The image key is one of the keys in the
 // ranges, no end is above bins, and each range has at most four values.
 #[derive(Clone, Copy)]
@@ -27,12 +29,13 @@ impl KeyRange {
         requires { Ratios r × NarrowTolerance e bins }
         ensures { (result.centre ≡ key_of r bins) × (result.lo ≡ lower_of r e bins) × (result.hi ≡ upper_of r e bins) × (result.bins ≡ bins) }
     {
+        let tolerance = KeyTolerance { e, bins };
         let centre = pattern::key::compute_pattern_key(r, bins);
         let mut lo = [0; 5];
         let mut hi = [0; 5];
         for i in 0..5 {
-            lo[i] = crate::key_bounds::low(r[i], e, bins, centre[i]);
-            hi[i] = crate::key_bounds::high(r[i], e, bins, centre[i]);
+            lo[i] = tolerance.low(r[i], centre[i]);
+            hi[i] = tolerance.high(r[i], centre[i]);
         }
         KeyRange {
             centre,

@@ -6,6 +6,8 @@ use native.Mathlib.Omega.{arith}
 use mathlib.Core.Bool.{Bool, true, false, cond}
 use mathlib.Core.List.{List}
 use Rattle.std.specs.Prelude.{Option, None, Some, Result, Ok, Err}
+use Rattle.std.proofs.lemmas.List.{get_or-map}
+use Rattle.preprocess.specs.BrightnessList.{place_of}
 use lib.ListN.{length, get_or}
 use lib.Seq.{get_or-take}
 use lib.Ieee.{Float}
@@ -44,9 +46,10 @@ use Rattle.search_feed.specs.declared.ReadOutcome.TheVariants.{Empty, Passed, Fo
 use Rattle.search_feed.proofs.WithinLimits.{every_combination_keyed, fitting, keys_counted}
 use Rattle.search_step.specs.LoadedRead.{LoadedRead}
 use Rattle.pattern_search.specs.Answers.{said}
+use Rattle.pattern_search.specs.declared.Searched.{Searched}
 use Rattle.pattern_search.specs.Iteration.{saw_entry, iteration_after, Ready, Iterated, rest}
-use Rattle.pattern_search.specs.declared.Iteration.{Iteration}
-use Rattle.pattern_search.specs.declared.Iteration.TheVariants.{Goes}
+use Rattle.std.specs.declared.ops.ControlFlow.{ControlFlow}
+use Rattle.std.specs.declared.ops.ControlFlow.TheVariants.{Continue}
 use Rattle.question.proofs.Numbers.{number_once}
 use Rattle.pattern_search.specs.declared.Answer.TheVariants.{Candidate as SaidCandidate, AllowanceUsed, Ended}
 use Rattle.search_cache.proofs.Loaded.{kept_64, four_below}
@@ -122,8 +125,8 @@ module _ (D : Data) (r : Position) (h : Cache) (x : Loaded) (a : FrameFits D.fra
   unfolding feed
   keys_few = subst (λ k. k ≤ 1024) (sym u.keys) (keys_counted D.frame a r.pass n.four.pass r.four n.four.rising).1
 
-  cached_place : (k : ℕ) → k < length (kept_places D.frame r.pass) → get_or h.places k 0 ≡ kept_place D.frame r.pass k
-  cached_place k l = sym (get_or-take p.held.kept h.places k 0 (omega (arith, p.cached.count))) ∙ ap (λ z. get_or z k 0) p.cached.places_are
+  cached_place : (k : ℕ) → k < length (kept_places D.frame r.pass) → get_or h.places k (place_of 0) ≡ place_of (kept_place D.frame r.pass k)
+  cached_place k l = sym (get_or-take p.held.kept h.places k (place_of 0) (omega (arith, p.cached.count))) ∙ ap (λ z. get_or z k (place_of 0)) p.cached.places_are ∙ get_or-map place_of (kept_places D.frame r.pass) k 0 (place_of 0) l
 
   places_same : places_in h.places r.four ≡ places_of D.frame r.pass r.four
   unfolding places_of
@@ -189,7 +192,7 @@ module _ (D : Data) (st : State) (a : ℕ) (w : Cursor) where
     reply_hit f s g v ve z ze = rw (iterate_hit (feed D) cap st a w r e p f s g, ze, ve)
 
     -- An iteration after which the call goes on.
-    iterate_more : valid_at (feed D) r ≡ true → gives (feed D) r ≡ None → (v : Cursor) → v ≡ after_read (feed D) cap w r → (h : Cache) → Ready D v h → Iterated D st a w h (Goes v (a - 1))
+    iterate_more : valid_at (feed D) r ≡ true → gives (feed D) r ≡ None → (v : Cursor) → v ≡ after_read (feed D) cap w r → (h : Cache) → Ready D v h → Iterated D st a w h (Continue (v, a - 1))
     iterate_more s n v ve h y = (omega (arith, p), ap (continuing (feed D) cap st (a - 1)) ve ∙ iterate_passed (feed D) cap st a w r e p s n, y)
 
     -- The iteration of a read that question 9 does not refuse.
@@ -199,7 +202,7 @@ module _ (D : Data) (st : State) (a : ℕ) (w : Cursor) where
       by_outcome Passed m = iterate_more m.1 m.2 v ve h y
       by_outcome (Found x) m = reply_hit x m.1 m.2 v ve _ refl
 
-      pub read_iterated : (x : ReadOutcome) → Means (Ok x) (filled (feed D) r) (valid_at (feed D) r) (gives (feed D) r) → (u : Iteration) → u ≡ iteration_after x v (a - 1) → Iterated D st a w h u
+      pub read_iterated : (x : ReadOutcome) → Means (Ok x) (filled (feed D) r) (valid_at (feed D) r) (gives (feed D) r) → (u : ControlFlow Searched (Cursor × ℕ)) → u ≡ iteration_after x v (a - 1) → Iterated D st a w h u
       read_iterated x m u ue = subst (Iterated D st a w h) (sym ue) (by_outcome x m)
 
 -- after a read the call is ready for the next

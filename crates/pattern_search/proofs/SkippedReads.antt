@@ -25,9 +25,10 @@ use Rattle.fast_path.specs.declared.skip_reads.SkipResult.{SkipResult}
 use Rattle.fast_path.proofs.Skippable.{skippable_rest}
 use Rattle.fast_path.proofs.SkippedReads.{skipped_reads_leads}
 use Rattle.pattern_search.specs.Answers.{searched}
+use Rattle.pattern_search.specs.declared.Searched.{Searched}
 use Rattle.pattern_search.specs.Iteration.{cursor_after_skip, Ready, Iterated}
-use Rattle.pattern_search.specs.declared.Iteration.{Iteration}
-use Rattle.pattern_search.specs.declared.Iteration.TheVariants.{Over, Goes}
+use Rattle.std.specs.declared.ops.ControlFlow.{ControlFlow}
+use Rattle.std.specs.declared.ops.ControlFlow.TheVariants.{Continue, Break}
 use Rattle.search_cache.proofs.Loaded.{loaded_pass, loaded_four}
 use Rattle.pattern_search.proofs.Iterating.{here_of}
 
@@ -100,6 +101,6 @@ module _ (D : Data) (w : Cursor) (p : Position) (h0 h : Cache) (x : Loaded) (y :
         }
 
 -- an iteration from there is an iteration from here
-pub iterated_from : (D : Data) (st : State) (a left : ℕ) (w v : Cursor) (h : Cache) (u : Iteration) → left ≤ a → continuing (feed D) D.frame.config.cap st left v ≡ continuing (feed D) D.frame.config.cap st a w → Iterated D st left v h u → Iterated D st a w h u
-iterated_from D st a left w v h (Over reply) l e t = t ∙ ap searched e
-iterated_from D st a left w v h (Goes x k) l e t = (omega (arith, t.0), t.1 ∙ e, t.2)
+pub iterated_from : (D : Data) (st : State) (a left : ℕ) (w v : Cursor) (h : Cache) (u : ControlFlow Searched (Cursor × ℕ)) → left ≤ a → continuing (feed D) D.frame.config.cap st left v ≡ continuing (feed D) D.frame.config.cap st a w → Iterated D st left v h u → Iterated D st a w h u
+iterated_from D st a left w v h (Break reply) l e t = t ∙ ap searched e
+iterated_from D st a left w v h (Continue (x, k)) l e t = (omega (arith, t.0), t.1 ∙ e, t.2)

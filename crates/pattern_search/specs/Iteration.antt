@@ -1,5 +1,7 @@
 -- What one iteration of a search call returns, and what holds of the call between two iterations. Definitions only.
 use Rattle.std.specs.Prelude.{◌≡◌, ℕ, ◌+◌, ◌-◌, ◌<◌, Bool, true, false, cond, eqb, Ok}
+use Rattle.std.specs.declared.ops.ControlFlow.{ControlFlow}
+use Rattle.std.specs.declared.ops.ControlFlow.TheVariants.{Continue, Break}
 use Rattle.pattern_catalog.specs.Blocks.{table_fits}
 use Rattle.undivided_run.specs.declared.state.Position.{Position}
 use Rattle.undivided_run.specs.declared.state.State.{State}
@@ -17,9 +19,7 @@ use Rattle.search_feed.specs.declared.ReadOutcome.TheVariants.{Empty, Passed, Fo
 use Rattle.undivided_run.specs.Moves.{at_key}
 use Rattle.fast_path.specs.declared.skip_reads.SkipResult.{SkipResult}
 use Rattle.pattern_search.specs.Answers.{searched}
-use Rattle.pattern_search.specs.declared.Iteration.{Iteration}
 use Rattle.pattern_search.specs.declared.Searched.{Searched}
-use Rattle.pattern_search.specs.declared.Iteration.TheVariants.{Over, Goes}
 use Rattle.pattern_search.specs.declared.Answer.TheVariants.{Candidate as SaidCandidate}
 
 -- Whether the slot of a read with this outcome is filled.
@@ -29,10 +29,10 @@ saw_entry Passed = true
 saw_entry (Found x) = true
 
 -- The iteration of a read with this outcome, where w is the cursor after the read.
-abbrev pub iteration_after : ReadOutcome → Cursor → ℕ → Iteration
-iteration_after (Found x) w left = Over (record { answer = Ok (SaidCandidate x); state = record { phase = phase_of w.next; patterns = w.patterns; reads = w.reads } })
-iteration_after Empty w left = Goes w left
-iteration_after Passed w left = Goes w left
+abbrev pub iteration_after : ReadOutcome → Cursor → ℕ → ControlFlow Searched (Cursor × ℕ)
+iteration_after (Found x) w left = Break (record { answer = Ok (SaidCandidate x); state = record { phase = phase_of w.next; patterns = w.patterns; reads = w.reads } })
+iteration_after Empty w left = Continue (w, left)
+iteration_after Passed w left = Continue (w, left)
 
 -- The cursor after the reads that `fast_path` skipped, where w is the cursor before them, p its read, and a the reads allowed before them.
 abbrev pub cursor_after_skip : Cursor → Position → SkipResult → ℕ → Cursor
@@ -56,7 +56,7 @@ module _ (D : Data) where
 
   -- What an iteration ensures that leaves the cache h. If it ends the call, its reply is the call's reply; if not, fewer reads are allowed, the rest
   -- of the call is the same, and the call is ready to go on.
-  abbrev pub Iterated : State → ℕ → Cursor → Cache → Iteration → Type 0
-  Iterated st a w h (Over reply) = reply ≡ rest st a w
-  Iterated st a w h (Goes v left) =
+  abbrev pub Iterated : State → ℕ → Cursor → Cache → ControlFlow Searched (Cursor × ℕ) → Type 0
+  Iterated st a w h (Break reply) = reply ≡ rest st a w
+  Iterated st a w h (Continue (v, left)) =
       (left < a) × (continuing (feed D) D.frame.config.cap st left v ≡ continuing (feed D) D.frame.config.cap st a w) × Ready v h

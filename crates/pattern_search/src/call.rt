@@ -11,24 +11,26 @@ ghost use Rattle.pattern_search.specs.Iteration.{Ready};
 ghost use Rattle.pattern_search.specs.Demand3.{lent_by, returned};
 
 use crate::reading::iterate;
-use crate::{Answer, Iteration, Searched};
+use crate::{Answer, Searched};
+use fast_path::probe_chain::KnownTable;
 use fast_path::valid_stars::ValidStars;
 use question::Question;
 use search_cache::pass::Cache;
-use search_feed::lent::{Frame, Table};
+use search_feed::lent::{FittingFrame, Frame, Table};
+use std::ops::ControlFlow;
 use undivided_run::state::{Cursor, Next, Phase, State};
 
 // Iteration after iteration, until a reply.
 fn run(
-    frame: &Frame<'_>,
+    fitting: &FittingFrame<'_>,
     table: &Table<'_>,
     st: State,
     allowance: u64,
     cursor: Cursor,
     cache: &mut Cache,
 ) -> Searched
-    requires { Ready (data_in frame.now table.now) cursor cache.old × (length table.now.stars.now ≤ 3145728) }
-    ensures { result ≡ searched (continuing (feed (data_in frame.now table.now)) frame.now.config.cap st allowance cursor) }
+    requires { Ready (data_in fitting.now.frame table.now) cursor cache.old × (length table.now.stars.now ≤ 3145728) }
+    ensures { result ≡ searched (continuing (feed (data_in fitting.now.frame table.now)) fitting.now.frame.config.cap st allowance cursor) }
 {
     let mut w = cursor;
     let mut a = allowance;
@@ -36,9 +38,13 @@ fn run(
     loop {
         let k = fast_path::valid_stars::validate_stars(table.stars, known, allowance - a);
         known = k;
-        match iterate(frame, table, k.count(), st, a, w, cache) {
-            Iteration::Over(reply) => return reply,
-            Iteration::Goes(on, left) => {
+        let known_table = KnownTable {
+            table: *table,
+            valid: k.count(),
+        };
+        match iterate(fitting, &known_table, st, a, w, cache) {
+            ControlFlow::Break(reply) => return reply,
+            ControlFlow::Continue((on, left)) => {
                 w = on;
                 a = left;
             }
@@ -74,14 +80,15 @@ fn go(frame: &Frame<'_>, table: &Table<'_>, st: State, allowance: u64) -> Search
     requires { first_seven (frame_in frame.now) table.now.slots table.now.words.now table.now.stars.now ≡ None }
     ensures { result ≡ returned st (record { lent_data = data_in frame.now table.now; allowance = allowance }) }
 {
+    let fitting = FittingFrame { frame: *frame };
     let mut cache = Cache::empty();
-    if !search_questions::question_8::state_fits(frame, table.slots, st, &mut cache) {
+    if !search_questions::question_8::state_fits(&fitting, table.slots, st, &mut cache) {
         return Searched {
             answer: Err(Question::SavedState),
             state: st,
         };
     }
-    let next = search_step::call_start::start_call(frame, table.slots, st, &mut cache);
+    let next = search_step::call_start::start_call(&fitting, table.slots, st, &mut cache);
     if allowance == 0 {
         return zero_call(st, next);
     }
@@ -90,7 +97,7 @@ fn go(frame: &Frame<'_>, table: &Table<'_>, st: State, allowance: u64) -> Search
         patterns: st.patterns,
         reads: st.reads,
     };
-    run(frame, table, st, allowance, cursor, &mut cache)
+    run(&fitting, table, st, allowance, cursor, &mut cache)
 }
 
 // One search call: questions 1 to 8 in order, then reads up to the allowance, 9 asked at every filled slot.

@@ -7,6 +7,7 @@ mod reading;
 pub use crate::call::search;
 use candidates::entry_tests::Candidate;
 use question::Question;
+use std::ops::ControlFlow;
 use undivided_run::state::{Cursor, State, Status};
 
 // What a call answers that no question refuses.
@@ -24,11 +25,5 @@ pub struct Searched {
     pub state: State,
 }
 
-// What an iteration gives.
-#[derive(Clone, Copy)]
-pub enum Iteration {
-    // The call is over, with this reply.
-    Over(Searched),
-    // The call goes on with this cursor and this allowance.
-    Goes(Cursor, u64),
-}
+// What an iteration gives: the reply, where the call is over, else the cursor and the allowance with which it goes on.
+pub type Iteration = ControlFlow<Searched, (Cursor, u64)>;

@@ -3,6 +3,10 @@ use Rattle.std.specs.Prelude.{ℕ, ◌/◌, Bool, true, false, not, ◌&&◌, �
 use Rattle.preprocess.specs.declared.unit_vectors.CentroidIndex.{CentroidIndex}
 use Rattle.preprocess.specs.declared.brightness_list.Place.{Place}
 
+-- The place with number p.
+abbrev pub place_of : ℕ → Place
+place_of p = record { 0 = p }
+
 -- Whether each index is below n.
 unfoldable pub all_below : ℕ → List ℕ → Bool
 all_below n [] = true

@@ -1,6 +1,6 @@
 // The brightness list holds centroid indices in order of brightness. This module asks question 3 of it and finds the centroid at a place of it.
-ghost use Rattle.std.specs.Prelude.{◌≡◌, ◌<◌, true, length, drop};
-ghost use Rattle.preprocess.specs.BrightnessList.{order_fits, all_below, among, none_twice, centroid_of};
+ghost use Rattle.std.specs.Prelude.{◌≡◌, ◌<◌, true, length};
+ghost use Rattle.preprocess.specs.BrightnessList.{order_fits, all_below, none_twice, centroid_of};
 
 use crate::unit_vectors::CentroidIndex;
 

@@ -15,14 +15,16 @@ use undivided_run::state::State;
 // Answers what a record asks for, and returns the state that it leaves.
 pub fn answer(rt: &impl Print, record: &Record, lent: &Lent) -> Result<State, Broken> {
     let state = lent.inputs.state;
-    match record.request {
+    let Some(request) = record.request else {
+        return Ok(state);
+    };
+    match request {
         Request::Call(allowance) => return Ok(one_call(rt, lent, state, allowance)),
         Request::Run(allowance) => return Ok(calls(rt, lent, state, allowance)),
         Request::Open => open_record(rt, lent),
         Request::Slot(slot) => slot_record(rt, lent, slot),
         Request::Sweep => sweep_record(rt, record.words)?,
         Request::Complete => complete_record(rt, lent, record.words),
-        Request::Nothing => {}
     }
     Ok(state)
 }
@@ -114,9 +116,9 @@ fn candidate_of(w: Words) -> Candidate {
 // Completes the candidate of a record and writes its line.
 fn complete_record(rt: &impl Print, lent: &Lent, w: Words) {
     let completed = complete::completing::complete(
-        lent.coords(),
-        lent.places(),
-        lent.triples(),
+        lent.centroids(),
+        lent.order(),
+        lent.passes(),
         lent.stars(),
         candidate_of(w),
         from_bits(w[11]),

@@ -10,6 +10,7 @@ use Rattle.settings.specs.Passes.{pass_at}
 use Rattle.thinning.specs.KeptList.{spot_at, thinned, kept_of, Kept}
 use Rattle.search_feed.specs.Data.{Frame}
 use Rattle.search_cache.specs.AngleArray.{DirectionsStored}
+use Rattle.preprocess.specs.declared.brightness_list.Place.{Place}
 use Rattle.search_feed.specs.Image.{kept_places}
 use Rattle.search_cache.specs.Cache.{HoldsPass, PassCacheValid, LoadedPass}
 use Rattle.search_cache.specs.declared.pass.Cache.{Cache}
@@ -26,7 +27,7 @@ pass_again F h i p d y e =
       yes = y;
       is = e;
       inside = subst (λ k. k < length F.passes / 3) e q.0;
-      cached = subst (λ k. HoldsPass F k p.kept h.places h.geometry) e q.1;
+      cached = subst (λ k. HoldsPass F k p.kept h.places h.geometry.numbers) e q.1;
     }
 
 -- The count that a cache has of the spots of the pass that it is loaded for.
@@ -36,11 +37,11 @@ kept_count F i h p l y =
     ap (λ (z : KeptPass). z.kept) e ∙ l.cached.count
 
 -- No more spots are kept than the number that the kept list is cut to.
-pub kept_most : (c : Float) (spot : ℕ → List Float) (n most r : ℕ) (places : List ℕ) (dirs : List (List Float)) → Kept c spot n most r places dirs → r ≤ most
+pub kept_most : (c : Float) (spot : ℕ → List Float) (n most r : ℕ) (places : List Place) (dirs : List (List Float)) → Kept c spot n most r places dirs → r ≤ most
 unfolding kept_of
 kept_most c spot n most r places dirs k = omega (arith, k.count, length-take most (thinned c spot n))
 
-pub pass_thinned : (F : Frame) (i r : ℕ) (places : List ℕ) (dirs : List (List Float)) (geometry : List Float) (p : Pass) → p ≡ pass_at F.passes i → Kept p.cosine (spot_at F.centroids F.order p.scale) (length F.order) F.config.checking r places dirs → DirectionsStored dirs r geometry → HoldsPass F i r places geometry
+pub pass_thinned : (F : Frame) (i r : ℕ) (places : List Place) (dirs : List (List Float)) (geometry : List Float) (p : Pass) → p ≡ pass_at F.passes i → Kept p.cosine (spot_at F.centroids F.order p.scale) (length F.order) F.config.checking r places dirs → DirectionsStored dirs r geometry → HoldsPass F i r places geometry
 unfolding kept_places
 pass_thinned F i r places dirs geometry p e k l =
     let h = rw e at k in

@@ -10,6 +10,7 @@ use Rattle.combinations.specs.declared.Combination.{Combination}
 use Rattle.combinations.specs.Combinations.{Rising}
 use Rattle.pattern.specs.Directions.{Directions}
 use Rattle.search_cache.specs.AngleArray.{four_at, AnglesCached, SameDirections}
+use Rattle.preprocess.specs.declared.brightness_list.Place.{Place}
 use Rattle.search_feed.specs.Data.{Frame}
 use Rattle.search_feed.specs.Image.{kept_places, directions_of}
 use Rattle.search_cache.specs.Cache.{EmptyCache, HoldsPass, HoldsCombination, PassCacheValid, CombinationCacheValid, LoadedPass, LoadedCombination}
@@ -34,10 +35,10 @@ module _ (F : Frame) (i : ℕ) (h : Cache) (f : LoadedPass F i h) where
   pub loaded_pass : PassCacheValid F h
   loaded_pass =
       record {
-        pass = rw f.yes (subst (λ k. k < length F.passes / 3) (sym f.is) f.inside, subst (λ k. HoldsPass F k f.held.kept h.places h.geometry) (sym f.is) f.cached);
+        pass = rw f.yes (subst (λ k. k < length F.passes / 3) (sym f.is) f.inside, subst (λ k. HoldsPass F k f.held.kept h.places h.geometry.numbers) (sym f.is) f.cached);
       }
 
-  still_pass : (after : List Float) → SameDirections h.geometry after → HoldsPass F i f.held.kept h.places after
+  still_pass : (after : List Float) → SameDirections h.geometry.numbers after → HoldsPass F i f.held.kept h.places after
   still_pass after s =
       record {
         count = f.cached.count;
@@ -47,14 +48,14 @@ module _ (F : Frame) (i : ℕ) (h : Cache) (f : LoadedPass F i h) where
       }
 
   -- Another cache with the same pass and the same places is loaded for that pass too, after angles were looked up.
-  pub same_pass : (g : Cache) → g.pass ≡ h.pass → g.places ≡ h.places → SameDirections h.geometry g.geometry → LoadedPass F i g
+  pub same_pass : (g : Cache) → g.pass ≡ h.pass → g.places ≡ h.places → SameDirections h.geometry.numbers g.geometry.numbers → LoadedPass F i g
   same_pass g a b s =
       record {
         held = f.held;
         yes = a ∙ f.yes;
         is = f.is;
         inside = f.inside;
-        cached = subst (λ (ps : List ℕ). HoldsPass F i f.held.kept ps g.geometry) (sym b) (still_pass g.geometry s);
+        cached = subst (λ (ps : List Place). HoldsPass F i f.held.kept ps g.geometry.numbers) (sym b) (still_pass g.geometry.numbers s);
       }
 
   -- A pass keeps at most 64 spots.
@@ -72,15 +73,15 @@ module _ (F : Frame) (i : ℕ) (h : Cache) (f : LoadedPass F i h) where
     four_below = let w = four_64 in (omega (arith, w.ab, w.bc, w.cd, w.dn), omega (arith, w.bc, w.cd, w.dn), omega (arith, w.cd, w.dn), w.dn)
 
     -- The angles of the positions up to the last of the combination are cached.
-    pub four_cached : AnglesCached (suc q.d) h.geometry
+    pub four_cached : AnglesCached (suc q.d) h.geometry.numbers
     four_cached = cached_fewer _ _ _ rises.dn f.cached.angles
 
     -- The directions in the array are those of the frame.
-    pub four_shown : directions_of F i q ≡ four_at h.geometry q
-    four_shown = sym (cached_directions F i f.held.kept h.geometry f.cached.directions_are q rises)
+    pub four_shown : directions_of F i q ≡ four_at h.geometry.numbers q
+    four_shown = sym (cached_directions F i f.held.kept h.geometry.numbers f.cached.directions_are q rises)
 
     -- The directions in the array are within the limits of a direction.
-    pub four_directions : Directions (four_at h.geometry q)
+    pub four_directions : Directions (four_at h.geometry.numbers q)
     four_directions = subst Directions four_shown (directions_small F a i f.inside q r)
 
   -- A cache that is loaded for a combination of its pass holds what it says.

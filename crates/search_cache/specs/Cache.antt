@@ -1,8 +1,10 @@
 -- What a call keeps in its cache: the kept list of one pass, and the keys of one combination. The arrays of the struct Cache are `places` (the kept
 -- places), `geometry` (directions and angles) and `hashes` (the hashes of the keys). Definitions only.
-use Rattle.std.specs.Prelude.{◌≡◌, ℕ, ◌/◌, ◌<◌, List, length, get_or, take, Float, Option, None, Some}
+use Rattle.std.specs.Prelude.{◌≡◌, ℕ, ◌/◌, ◌<◌, List, length, map, get_or, take, Float, Option, None, Some}
 use Rattle.combinations.specs.declared.Combination.{Combination}
 use Rattle.candidates.specs.declared.entry_tests.Image.{Image}
+use Rattle.preprocess.specs.declared.brightness_list.Place.{Place}
+use Rattle.preprocess.specs.BrightnessList.{place_of}
 use Rattle.search_feed.specs.Data.{Frame}
 use Rattle.search_cache.specs.AngleArray.{direction_at, AnglesCached}
 use Rattle.search_feed.specs.Image.{keys_in, hash_in, spot_of, kept_places, kept_place, image_at}
@@ -17,9 +19,9 @@ pub record EmptyCache (h : Cache) : Type 0 where
   pub four : h.four ≡ None
 
 -- The arrays hold the n kept places of pass i, their directions, and the angle of each two of them or that it is not worked out.
-pub record HoldsPass (F : Frame) (i n : ℕ) (places : List ℕ) (geometry : List Float) : Type 0 where
+pub record HoldsPass (F : Frame) (i n : ℕ) (places : List Place) (geometry : List Float) : Type 0 where
   pub count : n ≡ length (kept_places F i)
-  pub places_are : take n places ≡ kept_places F i
+  pub places_are : take n places ≡ map place_of (kept_places F i)
   pub directions_are : (x : ℕ) → x < n → direction_at geometry x ≡ spot_of F i (kept_place F i x)
   pub angles : AnglesCached n geometry
 
@@ -30,7 +32,7 @@ pub record HoldsCombination (F : Frame) (i : ℕ) (q : Combination) (n : ℕ) (i
   pub hash : (k : ℕ) → k < n → get_or hashes k 0 ≡ hash_in F.config (image_at F i q) k
 
 -- Where a cache says that it is loaded for a pass, the pass exists and the arrays hold it.
-abbrev pub PassIfAny : Option KeptPass → Frame → List ℕ → List Float → Type 0
+abbrev pub PassIfAny : Option KeptPass → Frame → List Place → List Float → Type 0
 PassIfAny (Some p) F places geometry = (p.number < length F.passes / 3) × HoldsPass F p.number p.kept places geometry
 PassIfAny None F places geometry = Unit {0}
 
@@ -43,7 +45,7 @@ CombinationIfAny None p F hashes = Unit {0}
 -- The arrays of a pass hold what the cache says. Their types say how long they are: 64 places, and 2208 = 64·3 + 64·63/2 numbers for the
 -- directions and an angle for each two of them.
 pub record PassCacheValid (F : Frame) (h : Cache) : Type 0 where
-  pub pass : PassIfAny h.pass F h.places h.geometry
+  pub pass : PassIfAny h.pass F h.places h.geometry.numbers
 
 -- The array of a combination holds what the cache says.
 pub record CombinationCacheValid (F : Frame) (h : Cache) : Type 0 where
@@ -59,7 +61,7 @@ pub record LoadedPass (F : Frame) (i : ℕ) (h : Cache) : Type 0 where
   -- Pass i exists.
   pub inside : i < length F.passes / 3
   -- The arrays hold pass i.
-  pub cached : HoldsPass F i held.kept h.places h.geometry
+  pub cached : HoldsPass F i held.kept h.places h.geometry.numbers
 
 -- The cache is loaded for combination q of pass i.
 pub record LoadedCombination (F : Frame) (i : ℕ) (q : Combination) (h : Cache) : Type 0 where

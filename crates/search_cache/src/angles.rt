@@ -1,6 +1,5 @@
-// The directions of a pass's kept spots and the angle of each two of them, in one array `geometry`: 64 directions of three numbers each, then one angle
-// for each two of 64 positions in the kept list. An angle is -1 until it is first worked out.
-ghost use Rattle.std.specs.Prelude.{◌≡◌, true, false, [], ℕ, suc, ◌≤◌, ◌<◌, length, get_or};
+// The directions of a pass's kept spots and the angle of each two of them.
+ghost use Rattle.std.specs.Prelude.{◌≡◌, true, false, [], ℕ, suc, ◌≤◌, ◌<◌, get_or};
 ghost use Rattle.std.specs.Float.Ieee.{lt};
 ghost use Rattle.std.specs.Float.{nan};
 ghost use Rattle.numeric.specs.Value.{zero32};
@@ -10,6 +9,12 @@ ghost use Rattle.search_cache.specs.AngleArray.{row_at, direction_at, three_of, 
 
 use combinations::Combination;
 
+// 64 directions of three numbers each, then one angle for each two of 64 positions in the kept list. An angle is -1 until it is first worked out.
+#[derive(Drop)]
+pub struct Geometry {
+    pub numbers: [f32; 2208],
+}
+
 // Returns the index at which the angles of position j with the positions before it begin: after 192 numbers of directions and the angles of the
 // positions before j.
 fn row(j: usize) -> usize
@@ -17,28 +22,6 @@ fn row(j: usize) -> usize
     ensures { result ≡ row_at j }
 {
     192 + (j * j - j) / 2
-}
-
-// Returns the direction at position k.
-fn direction_at(geometry: &[f32; 2208], k: usize) -> [f32; 3]
-    requires { k < 64 }
-    ensures { result ≡ direction_at geometry.now k }
-{
-    let i = 3 * k;
-    [geometry[i], geometry[i + 1], geometry[i + 2]]
-}
-
-// Returns the directions at the four positions of a combination.
-// Kept: four calls by name, since a map over the four needs a closure with a clause on its position, and is longer.
-fn four_at(geometry: &[f32; 2208], q: Combination) -> [[f32; 3]; 4]
-    requires { Rising 64 q }
-    ensures { result ≡ four_at geometry.now q }
-{
-    let a = direction_at(geometry, q.a as usize);
-    let b = direction_at(geometry, q.b as usize);
-    let c = direction_at(geometry, q.c as usize);
-    let d = direction_at(geometry, q.d as usize);
-    [a, b, c, d]
 }
 
 // Returns the angle between two directions: `known`, or, where that is below 0, the angle worked out from the directions.
@@ -69,23 +52,6 @@ fn edge_angles(v: [[f32; 3]; 4], known: [f32; 6]) -> [f32; 6]
     [ab, ac, ad, bc, bd, cd]
 }
 
-// Stores w, the angle of positions i and j, in the array.
-fn keep(geometry: &mut [f32; 2208], i: u32, j: u32, w: f32)
-    requires { (i < j) × (j < 64) × (w ≡ angle (direction_at geometry.old i) (direction_at geometry.old j)) }
-    ensures { SameDirections geometry.old geometry.new }
-{
-    let at = row(j as usize) + i as usize;
-    geometry[at] = w;
-}
-
-// Returns what the array has for positions i and j: their angle, or -1.
-fn cached_at(geometry: &[f32; 2208], i: u32, j: u32) -> f32
-    requires { (i < j) × (j < 64) }
-    ensures { result ≡ angle_in geometry.now i j }
-{
-    geometry[row(j as usize) + i as usize]
-}
-
 // Returns whether six angles that were looked up are all worked out, which is to say not below 0.
 fn all_known(v: [f32; 6]) -> bool
     ensures known { result ≡ true → (k : ℕ) → k < 6 → lt (get_or v k nan) zero32 ≡ false }
@@ -94,79 +60,120 @@ fn all_known(v: [f32; 6]) -> bool
     !v.iter().any(|x| *x < 0.0)
 }
 
-// Returns what the array has for the six pairs of four positions, in the source's order.
-// Kept: six calls by name, here and where angles are worked out and stored, since a map needs a list of the six pairs and a closure with clauses.
-fn cached_six(geometry: &[f32; 2208], q: Combination) -> [f32; 6]
-    requires { Rising 64 q }
-    ensures { result ≡ six_in geometry.now q }
-{
-    let ab = cached_at(geometry, q.a, q.b);
-    let ac = cached_at(geometry, q.a, q.c);
-    let ad = cached_at(geometry, q.a, q.d);
-    let bc = cached_at(geometry, q.b, q.c);
-    let bd = cached_at(geometry, q.b, q.d);
-    let cd = cached_at(geometry, q.c, q.d);
-    [ab, ac, ad, bc, bd, cd]
-}
-
-// The six angles, those not cached yet worked out from the four directions, and stored.
-fn compute_six(geometry: &mut [f32; 2208], q: Combination, kept: [f32; 6]) -> [f32; 6]
-    requires { Rising 64 q × AnglesCached (suc q.d) geometry.old × (kept ≡ six_in geometry.old q) }
-    ensures six { result ≡ angles (four_at geometry.old q) }
-    ensures directions { SameDirections geometry.old geometry.new }
-{
-    let v = four_at(&*geometry, q);
-    let six = edge_angles(v, kept);
-    keep(geometry, q.a, q.b, six[0]);
-    keep(geometry, q.a, q.c, six[1]);
-    keep(geometry, q.a, q.d, six[2]);
-    keep(geometry, q.b, q.c, six[3]);
-    keep(geometry, q.b, q.d, six[4]);
-    keep(geometry, q.c, q.d, six[5]);
-    six
-}
-
-// Returns the angles of the six pairs of four positions, in the source's order, and stores those that the array did not have.
-pub fn six_angles(geometry: &mut [f32; 2208], q: Combination) -> [f32; 6]
-    requires { Rising 64 q × AnglesCached (suc q.d) geometry.old }
-    ensures six { result ≡ angles (four_at geometry.old q) }
-    ensures directions { SameDirections geometry.old geometry.new }
-{
-    let kept = cached_six(&*geometry, q);
-    if all_known(kept) {
-        return kept;
-    }
-    compute_six(geometry, q, kept)
-}
-
-// Writes the first n directions to the array.
-fn put_directions(dirs: &[[f32; 3]; 64], n: usize, geometry: &mut [f32; 2208])
-    requires { n ≤ 64 }
-    ensures { (k : ℕ) → k < n → direction_at geometry.new k ≡ three_of (get_or dirs.now k []) }
-{
-    for k in 0..n {
-        let v = dirs[k];
+impl Geometry {
+    // Returns the direction at position k.
+    fn direction_at(&self, k: usize) -> [f32; 3]
+        requires { k < 64 }
+        ensures { result ≡ direction_at self.now.numbers k }
+    {
         let i = 3 * k;
-        geometry[i] = v[0];
-        geometry[i + 1] = v[1];
-        geometry[i + 2] = v[2];
+        [self.numbers[i], self.numbers[i + 1], self.numbers[i + 2]]
     }
-}
 
-// Marks the angles of the first n positions as not worked out.
-fn clear_angles(n: usize, geometry: &mut [f32; 2208])
-    requires { n ≤ 64 }
-    ensures { AnglesCached n geometry.new × ((k : ℕ) → k < 64 → direction_at geometry.new k ≡ direction_at geometry.old k) }
-{
-    let end = row(n);
-    geometry[192..end].fill(-1.0);
-}
+    // Returns the directions at the four positions of a combination.
+    // Kept: four calls by name, since a map needs a closure with a clause; and that q rises a clause, since a Combination of a saved state need not.
+    fn four_at(&self, q: Combination) -> [[f32; 3]; 4]
+        requires { Rising 64 q }
+        ensures { result ≡ four_at self.now.numbers q }
+    {
+        let a = self.direction_at(q.a as usize);
+        let b = self.direction_at(q.b as usize);
+        let c = self.direction_at(q.c as usize);
+        let d = self.direction_at(q.d as usize);
+        [a, b, c, d]
+    }
 
-// Loads the array for a pass that keeps n spots with these directions: writes the directions and clears the angles.
-pub fn load(dirs: &[[f32; 3]; 64], n: usize, geometry: &mut [f32; 2208])
-    requires { n ≤ 64 }
-    ensures { DirectionsStored dirs.now n geometry.new }
-{
-    put_directions(dirs, n, geometry);
-    clear_angles(n, geometry);
+    // Stores w, the angle of positions i and j, in the array.
+    fn keep(&mut self, i: u32, j: u32, w: f32)
+        requires { (i < j) × (j < 64) × (w ≡ angle (direction_at self.old.numbers i) (direction_at self.old.numbers j)) }
+        ensures { SameDirections self.old.numbers self.new.numbers }
+    {
+        let at = row(j as usize) + i as usize;
+        self.numbers[at] = w;
+    }
+
+    // Returns what the array has for positions i and j: their angle, or -1.
+    fn cached_at(&self, i: u32, j: u32) -> f32
+        requires { (i < j) × (j < 64) }
+        ensures { result ≡ angle_in self.now.numbers i j }
+    {
+        self.numbers[row(j as usize) + i as usize]
+    }
+
+    // Returns what the array has for the six pairs of four positions, in the source's order.
+    // Kept: six calls by name, here and where angles are worked out and stored, since a map needs a list of the six pairs and a closure with clauses.
+    fn cached_six(&self, q: Combination) -> [f32; 6]
+        requires { Rising 64 q }
+        ensures { result ≡ six_in self.now.numbers q }
+    {
+        let ab = self.cached_at(q.a, q.b);
+        let ac = self.cached_at(q.a, q.c);
+        let ad = self.cached_at(q.a, q.d);
+        let bc = self.cached_at(q.b, q.c);
+        let bd = self.cached_at(q.b, q.d);
+        let cd = self.cached_at(q.c, q.d);
+        [ab, ac, ad, bc, bd, cd]
+    }
+
+    // The six angles, those not cached yet worked out from the four directions, and stored.
+    fn compute_six(&mut self, q: Combination, kept: [f32; 6]) -> [f32; 6]
+        requires { Rising 64 q × AnglesCached (suc q.d) self.old.numbers × (kept ≡ six_in self.old.numbers q) }
+        ensures six { result ≡ angles (four_at self.old.numbers q) }
+        ensures directions { SameDirections self.old.numbers self.new.numbers }
+    {
+        let v = self.four_at(q);
+        let six = edge_angles(v, kept);
+        self.keep(q.a, q.b, six[0]);
+        self.keep(q.a, q.c, six[1]);
+        self.keep(q.a, q.d, six[2]);
+        self.keep(q.b, q.c, six[3]);
+        self.keep(q.b, q.d, six[4]);
+        self.keep(q.c, q.d, six[5]);
+        six
+    }
+
+    // Returns the angles of the six pairs of four positions, in the source's order, and stores those that the array did not have.
+    pub fn six_angles(&mut self, q: Combination) -> [f32; 6]
+        requires { Rising 64 q × AnglesCached (suc q.d) self.old.numbers }
+        ensures six { result ≡ angles (four_at self.old.numbers q) }
+        ensures directions { SameDirections self.old.numbers self.new.numbers }
+    {
+        let kept = self.cached_six(q);
+        if all_known(kept) {
+            return kept;
+        }
+        self.compute_six(q, kept)
+    }
+
+    // Writes the first n directions to the array.
+    fn put_directions(&mut self, dirs: &[[f32; 3]; 64], n: usize)
+        requires { n ≤ 64 }
+        ensures { (k : ℕ) → k < n → direction_at self.new.numbers k ≡ three_of (get_or dirs.now k []) }
+    {
+        for k in 0..n {
+            let v = dirs[k];
+            let i = 3 * k;
+            self.numbers[i] = v[0];
+            self.numbers[i + 1] = v[1];
+            self.numbers[i + 2] = v[2];
+        }
+    }
+
+    // Marks the angles of the first n positions as not worked out.
+    fn clear_angles(&mut self, n: usize)
+        requires { n ≤ 64 }
+        ensures { AnglesCached n self.new.numbers × ((k : ℕ) → k < 64 → direction_at self.new.numbers k ≡ direction_at self.old.numbers k) }
+    {
+        let end = row(n);
+        self.numbers[192..end].fill(-1.0);
+    }
+
+    // Loads the array for a pass that keeps n spots with these directions: writes the directions and clears the angles.
+    pub fn load(&mut self, dirs: &[[f32; 3]; 64], n: usize)
+        requires { n ≤ 64 }
+        ensures { DirectionsStored dirs.now n self.new.numbers }
+    {
+        self.put_directions(dirs, n);
+        self.clear_angles(n);
+    }
 }

@@ -1,14 +1,15 @@
 // Loads the cache for a combination of its pass: what the frame shows of the combination, and the hashes of its keys. They are worked out anew
 // only when the combination changes.
-ghost use Rattle.std.specs.Prelude.{◌≡◌, ℕ, suc, true, Some};
+ghost use Rattle.std.specs.Prelude.{◌≡◌, suc, true, Some};
 ghost use Rattle.numeric.specs.Ratios.{Ratios};
 ghost use Rattle.pattern.specs.Directions.{Directions};
 ghost use Rattle.combinations.specs.Combinations.{Rising};
 ghost use Rattle.search_cache.specs.AngleArray.{four_at, AnglesCached, SameDirections};
 ghost use Rattle.search_feed.specs.Data.{Frame, settings_ok};
 ghost use Rattle.search_feed.specs.Image.{directions_of};
-ghost use Rattle.search_cache.specs.Cache.{CombinationCacheValid, LoadedPass, LoadedCombination};
+ghost use Rattle.search_cache.specs.Cache.{CombinationCacheValid, LoadedCombination};
 ghost use Rattle.search_cache.specs.CombinationKeys.{image_from, Prepared};
+ghost use Rattle.search_cache.specs.declared.pass.KeptPass.{KeptPass};
 
 use crate::pass::{Cache, CombinationKeys};
 use candidates::entry_tests::Image;
@@ -16,7 +17,7 @@ use combinations::Combination;
 use search_feed::SearchConfig;
 
 // Returns what six angles show: the largest edge and the five ratios.
-fn image_of(angles: [f32; 6]) -> Image
+fn image_from(angles: [f32; 6]) -> Image
     ensures { result ≡ image_from angles }
 {
     let edges = pattern::edge_sort::sort(angles);
@@ -26,6 +27,7 @@ fn image_of(angles: [f32; 6]) -> Image
 }
 
 // What the six angles of a combination show, and the hashes of their keys in order, so many of them.
+// Kept: lent the one array of the cache that it writes, since the cache still says that it has another combination.
 fn prepare(
     config: SearchConfig,
     four: Combination,
@@ -36,7 +38,7 @@ fn prepare(
     ensures keys { Prepared config (image_from angles) result.keys result.image hashes.new }
     ensures four { result.four ≡ four }
 {
-    let image = image_of(angles);
+    let image = image_from(angles);
     let ratios = image.ratios;
     let own = config.matching;
     let e = settings::tolerance::max_error(own, config.error, config.bins);
@@ -51,9 +53,9 @@ fn prepare(
 impl Cache {
     // Loads the cache for a combination of the pass that it is loaded for, unless it has that combination already, and returns its keys.
     pub fn load_combination(&mut self, config: SearchConfig, four: Combination) -> CombinationKeys
-        requires { (settings_ok config ≡ true) × Rising 64 four × AnglesCached (suc four.d) self.old.geometry × Directions (four_at self.old.geometry four) }
-        ensures loaded { (F : Frame) (i : ℕ) → F.config ≡ config → LoadedPass F i self.old → CombinationCacheValid F self.old → directions_of F i four ≡ four_at self.old.geometry four → LoadedCombination F i four self.new }
-        ensures rest { (self.new.pass ≡ self.old.pass) × (self.new.places ≡ self.old.places) × SameDirections self.old.geometry self.new.geometry }
+        requires { (settings_ok config ≡ true) × Rising 64 four × AnglesCached (suc four.d) self.old.geometry.numbers × Directions (four_at self.old.geometry.numbers four) }
+        ensures loaded { (F : Frame) (p : KeptPass) → F.config ≡ config → self.old.pass ≡ Some p → CombinationCacheValid F self.old → directions_of F p.number four ≡ four_at self.old.geometry.numbers four → LoadedCombination F p.number four self.new }
+        ensures rest { (self.new.pass ≡ self.old.pass) × (self.new.places ≡ self.old.places) × SameDirections self.old.geometry.numbers self.new.geometry.numbers }
         ensures keys { self.new.four ≡ Some result }
     {
         if let Some(held) = self.four
@@ -61,7 +63,7 @@ impl Cache {
         {
             return held;
         }
-        let angles = crate::angles::six_angles(&mut self.geometry, four);
+        let angles = self.geometry.six_angles(four);
         let keys = prepare(config, four, angles, &mut self.hashes);
         self.four = Some(keys);
         keys

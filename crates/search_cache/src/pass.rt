@@ -3,12 +3,13 @@
 ghost use Rattle.std.specs.Prelude.{◌≡◌, ◌/◌, ◌<◌, length};
 ghost use Rattle.search_feed.specs.Image.{kept_places};
 ghost use Rattle.search_feed.specs.Lent.{frame_in};
-ghost use Rattle.search_feed.specs.Claims.{FrameFits};
 ghost use Rattle.search_cache.specs.Cache.{EmptyCache, PassCacheValid, CombinationCacheValid, LoadedPass};
 
+use crate::angles::Geometry;
 use candidates::entry_tests::Image;
 use combinations::Combination;
-use search_feed::lent::Frame;
+use preprocess::brightness_list::Place;
+use search_feed::lent::FittingFrame;
 
 // A pass that the cache is loaded for: its number, and how many spots it keeps.
 #[derive(Clone, Copy)]
@@ -26,14 +27,15 @@ pub struct CombinationKeys {
 }
 
 // What a call keeps between reads. A call makes one, and lends it from then on.
+// Kept: what holds of it (specs/Cache.antt) is in the clauses of functions and no ghost field, since it is said of the frame too.
 #[derive(Drop)]
 pub struct Cache {
     // The pass that `places` and `geometry` are loaded for, if any.
     pub pass: Option<KeptPass>,
     // The places that the pass keeps, at most 64.
-    pub places: [u32; 64],
+    pub places: [Place; 64],
     // Their directions, and the angle of each two of them.
-    pub geometry: [f32; 2208],
+    pub geometry: Geometry,
     // The combination of that pass that `hashes` is loaded for, if any.
     pub four: Option<CombinationKeys>,
     // The hashes of the combination's keys, at most 1,024.
@@ -47,47 +49,49 @@ impl Cache {
     {
         Cache {
             pass: None,
-            places: [0; 64],
-            geometry: [0.0; 2208],
+            places: [Place(0); 64],
+            geometry: Geometry {
+                numbers: [0.0; 2208],
+            },
             four: None,
             hashes: [0; 1024],
         }
     }
 
     // Works out the kept list of a pass, loads the cache for that pass, and returns how many spots it keeps.
-    pub fn rebuild_pass(&mut self, frame: &Frame<'_>, pass: u32) -> u32
-        requires { FrameFits (frame_in frame.now) × (pass < length frame.now.passes.now / 3) }
-        ensures loaded { LoadedPass (frame_in frame.now) pass self.new }
-        ensures combination { CombinationCacheValid (frame_in frame.now) self.new }
-        ensures count { result ≡ length (kept_places (frame_in frame.now) pass) }
+    pub fn rebuild_pass(&mut self, fitting: &FittingFrame<'_>, pass: u32) -> u32
+        requires { pass < length fitting.now.frame.passes.now / 3 }
+        ensures loaded { LoadedPass (frame_in fitting.now.frame) pass self.new }
+        ensures combination { CombinationCacheValid (frame_in fitting.now.frame) self.new }
+        ensures count { result ≡ length (kept_places (frame_in fitting.now.frame) pass) }
     {
-        let p = settings::passes::pass_at(frame.passes, pass);
+        let p = settings::passes::pass_at(fitting.frame.passes, pass);
         let mut dirs = [[0.0; 3]; 64];
         let kept = thinning::kept_list::thin(
-            frame.centroids,
-            frame.order,
+            fitting.frame.centroids,
+            fitting.frame.order,
             p.scale,
             p.cosine,
-            frame.config.checking,
+            fitting.frame.config.checking,
             &mut self.places,
             &mut dirs,
         );
-        crate::angles::load(&dirs, kept as usize, &mut self.geometry);
+        self.geometry.load(&dirs, kept as usize);
         self.pass = Some(KeptPass { number: pass, kept });
         self.four = None;
         kept
     }
 
     // Loads the cache for a pass, unless it has that pass already, and returns how many spots the pass keeps.
-    pub fn load_pass(&mut self, frame: &Frame<'_>, pass: u32) -> u32
-        requires { FrameFits (frame_in frame.now) × PassCacheValid (frame_in frame.now) self.old × (pass < length frame.now.passes.now / 3) }
-        ensures loaded { LoadedPass (frame_in frame.now) pass self.new }
-        ensures combination { CombinationCacheValid (frame_in frame.now) self.old → CombinationCacheValid (frame_in frame.now) self.new }
-        ensures count { result ≡ length (kept_places (frame_in frame.now) pass) }
+    pub fn load_pass(&mut self, fitting: &FittingFrame<'_>, pass: u32) -> u32
+        requires { PassCacheValid (frame_in fitting.now.frame) self.old × (pass < length fitting.now.frame.passes.now / 3) }
+        ensures loaded { LoadedPass (frame_in fitting.now.frame) pass self.new }
+        ensures combination { CombinationCacheValid (frame_in fitting.now.frame) self.old → CombinationCacheValid (frame_in fitting.now.frame) self.new }
+        ensures count { result ≡ length (kept_places (frame_in fitting.now.frame) pass) }
     {
         match self.pass {
             Some(held) if held.number == pass => held.kept,
-            _ => self.rebuild_pass(frame, pass),
+            _ => self.rebuild_pass(fitting, pass),
         }
     }
 }

@@ -8,7 +8,7 @@ use Rattle.pattern_catalog.specs.Blocks.{filled, place}
 use Rattle.pattern_entry.specs.Entry.{bytes_at, entry_read}
 use Rattle.pattern_entry.specs.Validity.{entry_valid}
 use Rattle.candidates.specs.Comparisons.{rebuild_of}
-use Rattle.candidates.specs.NoCandidate.{place_of}
+use Rattle.preprocess.specs.BrightnessList.{place_of}
 use Rattle.candidates.specs.EntryTests.{test_of}
 use Rattle.candidates.specs.declared.entry_tests.Candidate.{Candidate}
 use Rattle.undivided_run.specs.declared.state.Position.{Position}

@@ -8,7 +8,7 @@ use Rattle.pattern_catalog.specs.Blocks.{filled, place}
 use Rattle.pattern_entry.specs.Entry.{bytes_at, entry_read}
 use Rattle.pattern_entry.specs.Validity.{entry_valid}
 use Rattle.candidates.specs.Comparisons.{rebuild_of}
-use Rattle.candidates.specs.NoCandidate.{place_of}
+use Rattle.preprocess.specs.BrightnessList.{place_of}
 use Rattle.candidates.specs.EntryTests.{test_of}
 use Rattle.candidates.specs.declared.entry_tests.Image.{Image}
 use Rattle.search_feed.specs.Image.{tolerance_in}
@@ -19,8 +19,8 @@ use Rattle.search_feed.specs.declared.ReadOutcome.{ReadOutcome}
 use Rattle.search_feed.specs.declared.ReadOutcome.TheVariants.{Empty, Passed, Found}
 
 -- the places at four positions of a list
-abbrev pub places_in : List ℕ → Combination → List Place
-places_in l q = place_of (get_or l q.a 0) ∷ place_of (get_or l q.b 0) ∷ place_of (get_or l q.c 0) ∷ place_of (get_or l q.d 0) ∷ []
+abbrev pub places_in : List Place → Combination → List Place
+places_in l q = get_or l q.a (place_of 0) ∷ get_or l q.b (place_of 0) ∷ get_or l q.c (place_of 0) ∷ get_or l q.d (place_of 0) ∷ []
 
 -- what the tests make of a valid entry
 abbrev pub made_candidate : Option Float → ℕ → List Place → ℕ → List StarIndex → Float → Float → ReadOutcome

@@ -1,4 +1,7 @@
 // What a call of the search is lent.
+ghost use Rattle.search_feed.specs.Claims.{FrameFits};
+ghost use Rattle.search_feed.specs.Lent.{frame_in};
+
 use crate::SearchConfig;
 
 // A frame: its centroids (x and y each), the brightness list, the settings and the passes (field of view, pixel scale and cosine of the separation
@@ -18,4 +21,11 @@ pub struct Table<'a> {
     pub words: &'a [u64],
     pub packed: &'a [u8],
     pub stars: &'a [f32],
+}
+
+// A frame of which questions 1 to 5 are answered yes.
+#[derive(Clone, Copy)]
+pub struct FittingFrame<'a> {
+    pub frame: Frame<'a>,
+    ghost fits: { FrameFits (frame_in frame) },
 }

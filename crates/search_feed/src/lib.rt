@@ -1,7 +1,7 @@
 // The settings of a search (SearchConfig) and one read of the table (read_slot). What the undivided run is fed is in specs/Feed.antt.
 #![tactic(auto)]
 
-ghost use Rattle.std.specs.Prelude.{◌≡◌, true, ◌+◌, ◌*◌, ◌%◌, ◌≤◌, ◌<◌, length, get_or};
+ghost use Rattle.std.specs.Prelude.{◌≡◌, true, ◌+◌, ◌*◌, ◌%◌, ◌≤◌, ◌<◌, get_or};
 ghost use Rattle.pattern_catalog.specs.Blocks.{table_fits};
 ghost use Rattle.pattern_entry.specs.Entry.{bytes_at};
 ghost use Rattle.pattern.specs.Key.{home_of};
@@ -12,6 +12,8 @@ pub mod lent;
 use crate::lent::Table;
 use candidates::entry_tests::{Candidate, Image};
 use combinations::Combination;
+use pattern_catalog::rank::TableSlot;
+use pattern_entry::entry::PackedEntry;
 use pattern_entry::stars::StarIndex;
 use preprocess::brightness_list::Place;
 use question::Question;
@@ -52,18 +54,15 @@ fn slot_of_probe(hash: u64, c: u32, slots: u64) -> u64
 }
 
 // The places of a combination in the brightness list.
-fn places_at(places: &[u32; 64], q: Combination) -> [Place; 4]
+// Kept: four by name, since a map over the four needs a closure with a clause on its position, and is longer.
+fn places_at(places: &[Place; 64], q: Combination) -> [Place; 4]
     requires { (q.a < 64) × (q.b < 64) × (q.c < 64) × (q.d < 64) }
     ensures { result ≡ places_in places.now q }
 {
-    let i = q.a as usize;
-    let j = q.b as usize;
-    let k = q.c as usize;
-    let l = q.d as usize;
-    let a = Place(places[i]);
-    let b = Place(places[j]);
-    let c = Place(places[k]);
-    let d = Place(places[l]);
+    let a = places[q.a as usize];
+    let b = places[q.b as usize];
+    let c = places[q.c as usize];
+    let d = places[q.d as usize];
     [a, b, c, d]
 }
 
@@ -95,7 +94,7 @@ fn make_candidate(
 
 // A filled slot: question 9 of its entry, then the tests.
 fn evaluate_entry(
-    entry: u64,
+    entry: &PackedEntry<'_>,
     slot: u64,
     hash: u64,
     four: [Place; 4],
@@ -103,18 +102,15 @@ fn evaluate_entry(
     image: Image,
     config: SearchConfig,
     field: f32,
-    packed: &[u8],
     stars: &[f32],
 ) -> Result<ReadOutcome, Question>
-    requires { (entry * 22 + 22 ≤ length packed.now) × (config.bins ≤ 4096) }
-    ensures { result ≡ evaluated_entry (bytes_at packed.now entry) slot hash four pass image config field stars.now }
+    requires { config.bins ≤ 4096 }
+    ensures { result ≡ evaluated_entry (bytes_at entry.now.packed.now entry.now.place) slot hash four pass image config field stars.now }
 {
-    if !pattern_entry::validity::entry_valid_at(stars, packed, entry) {
+    if !entry.is_valid(stars) {
         return Err(Question::EntryAndStars);
     }
-    let a = entry as usize * 22;
-    let b = a + 22;
-    let read = pattern_entry::entry::read_packed(&packed[a..b]);
+    let read = pattern_entry::entry::read_packed(entry.bytes());
     let own = config.matching;
     let e = settings::tolerance::max_error(own, config.error, config.bins);
     let fov = config.fov;
@@ -132,10 +128,11 @@ fn evaluate_entry(
 }
 
 // One read of the table, for a combination that shows this image.
+// Kept: the places and the hashes apart, since the cache that holds them is in a crate above this one.
 pub fn read_slot(
     p: Position,
     image: Image,
-    places: &[u32; 64],
+    places: &[Place; 64],
     hashes: &[u64; 1024],
     config: SearchConfig,
     field: f32,
@@ -147,12 +144,20 @@ pub fn read_slot(
     let k = p.key as usize;
     let hash = hashes[k];
     let slot = slot_of_probe(hash, p.probe, table.slots);
-    let Some(entry) = pattern_catalog::slot_read::find_in(table.words, table.packed, slot)? else {
+    let at = TableSlot {
+        words: table.words,
+        slot: slot as usize,
+    };
+    let Some(place) = at.find_in(table.packed)? else {
         return Ok(ReadOutcome::Empty);
+    };
+    let entry = PackedEntry {
+        packed: table.packed,
+        place,
     };
     let four = places_at(places, p.four);
     evaluate_entry(
-        entry,
+        &entry,
         slot,
         hash,
         four,
@@ -160,7 +165,6 @@ pub fn read_slot(
         image,
         config,
         field,
-        table.packed,
         table.stars,
     )
 }

@@ -5,11 +5,10 @@ ghost use Rattle.search_feed.specs.Data.{data_of};
 ghost use Rattle.search_feed.specs.Lent.{frame_in};
 ghost use Rattle.search_feed.specs.Feed.{feed};
 ghost use Rattle.search_cache.specs.Cache.{PassCacheValid, CombinationCacheValid};
-ghost use Rattle.search_feed.specs.Claims.{FrameFits};
 
 use combinations::Combination;
 use search_cache::pass::Cache;
-use search_feed::lent::Frame;
+use search_feed::lent::FittingFrame;
 use undivided_run::state::{Phase, Position, State};
 
 // Returns whether the four positions of a combination rise and are below n.
@@ -30,22 +29,22 @@ fn within_counts(patterns: u64, reads: u64) -> bool
 
 // Returns whether the pass, combination, key and probe numbers of p exist here, and loads the cache for its pass and combination as far as those
 // exist.
-fn position_exists(frame: &Frame<'_>, slots: u64, p: Position, cache: &mut Cache) -> bool
-    requires { FrameFits (frame_in frame.now) × PassCacheValid (frame_in frame.now) cache.old × CombinationCacheValid (frame_in frame.now) cache.old }
-    ensures fits { (w e : List ℕ) (s : List Float) → result ≡ position_exists (feed (data_of (frame_in frame.now) slots w e s)) p }
-    ensures caches { PassCacheValid (frame_in frame.now) cache.new × CombinationCacheValid (frame_in frame.now) cache.new }
+fn position_exists(fitting: &FittingFrame<'_>, slots: u64, p: Position, cache: &mut Cache) -> bool
+    requires { PassCacheValid (frame_in fitting.now.frame) cache.old × CombinationCacheValid (frame_in fitting.now.frame) cache.old }
+    ensures fits { (w e : List ℕ) (s : List Float) → result ≡ position_exists (feed (data_of (frame_in fitting.now.frame) slots w e s)) p }
+    ensures caches { PassCacheValid (frame_in fitting.now.frame) cache.new × CombinationCacheValid (frame_in fitting.now.frame) cache.new }
 {
-    if frame.config.patterns == 0 {
+    if fitting.frame.config.patterns == 0 {
         return false;
     }
-    if (frame.passes.len() / 3) as u32 <= p.pass {
+    if (fitting.frame.passes.len() / 3) as u32 <= p.pass {
         return false;
     }
-    let kept = cache.load_pass(frame, p.pass);
+    let kept = cache.load_pass(fitting, p.pass);
     if !rises_below(p.four, kept) {
         return false;
     }
-    let loaded = cache.load(frame, p);
+    let loaded = cache.load(fitting, p);
     if loaded.keys <= p.key {
         return false;
     }
@@ -53,16 +52,16 @@ fn position_exists(frame: &Frame<'_>, slots: u64, p: Position, cache: &mut Cache
 }
 
 // Returns the answer to question 8 for the state st, and loads the cache as far as the answer asks for.
-pub fn state_fits(frame: &Frame<'_>, slots: u64, st: State, cache: &mut Cache) -> bool
-    requires { FrameFits (frame_in frame.now) × PassCacheValid (frame_in frame.now) cache.old × CombinationCacheValid (frame_in frame.now) cache.old }
-    ensures fits { (w e : List ℕ) (s : List Float) → result ≡ phase_fits (feed (data_of (frame_in frame.now) slots w e s)) st.phase st.patterns st.reads }
-    ensures caches { PassCacheValid (frame_in frame.now) cache.new × CombinationCacheValid (frame_in frame.now) cache.new }
+pub fn state_fits(fitting: &FittingFrame<'_>, slots: u64, st: State, cache: &mut Cache) -> bool
+    requires { PassCacheValid (frame_in fitting.now.frame) cache.old × CombinationCacheValid (frame_in fitting.now.frame) cache.old }
+    ensures fits { (w e : List ℕ) (s : List Float) → result ≡ phase_fits (feed (data_of (frame_in fitting.now.frame) slots w e s)) st.phase st.patterns st.reads }
+    ensures caches { PassCacheValid (frame_in fitting.now.frame) cache.new × CombinationCacheValid (frame_in fitting.now.frame) cache.new }
 {
     match st.phase {
         Phase::Fresh => st.patterns == 0 && st.reads == 0,
         Phase::Ended(_) => within_counts(st.patterns, st.reads),
         Phase::At(p) => {
-            position_exists(frame, slots, p, cache) && within_counts(st.patterns, st.reads)
+            position_exists(fitting, slots, p, cache) && within_counts(st.patterns, st.reads)
         }
     }
 }

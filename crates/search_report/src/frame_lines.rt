@@ -3,7 +3,8 @@ ghost use Rattle.std.specs.Prelude.{◌≡◌, true, ◌≤◌, ◌<◌, ◌/◌
 ghost use Rattle.preprocess.specs.BrightnessList.{order_fits};
 
 use crate::data::Data;
-use crate::words::{Count, Row};
+use crate::words::Count;
+use preprocess::brightness_list::Place;
 
 impl Data<'_> {
     // Writes how many spots and passes the frame has.
@@ -21,7 +22,7 @@ impl Data<'_> {
         requires passes { pass < length self.now.frame.passes.now / 3 }
     {
         let p = settings::passes::pass_at(self.frame.passes, pass);
-        let mut kept = [0; 64];
+        let mut kept = [Place(0); 64];
         let mut dirs = [[0.0; 3]; 64];
         let n = thinning::kept_list::thin(
             self.frame.centroids,
@@ -32,8 +33,10 @@ impl Data<'_> {
             &mut kept,
             &mut dirs,
         );
-        let row = Row(&kept[..n as usize]);
-        let _ = print!(rt; ": {n} kept after thinning: places{row}");
+        let _ = print!(rt; ": {n} kept after thinning: places");
+        for place in &kept[..n as usize] {
+            let _ = print!(rt; " {}", place.0);
+        }
     }
 
     // Writes the line of a pass with the places that it keeps. The questions have let the data and the settings through before this is

@@ -5,36 +5,35 @@ ghost use Rattle.search_feed.specs.Data.{data_of};
 ghost use Rattle.search_feed.specs.Lent.{frame_in};
 ghost use Rattle.search_feed.specs.Feed.{feed};
 ghost use Rattle.search_cache.specs.Cache.{PassCacheValid};
-ghost use Rattle.search_feed.specs.Claims.{FrameFits};
 ghost use Rattle.search_step.specs.CacheAfter.{CacheAfter};
 
 use crate::pass_start::PassStart;
 use search_cache::pass::Cache;
-use search_feed::lent::Frame;
+use search_feed::lent::FittingFrame;
 use undivided_run::state::{Next, Position, Status, reached};
 
 // Returns the first read of the passes from `from` on, or the end of the run, and loads the cache for the passes that that asks for. `status` is
 // that of the pass before, and `tried` combinations were tried.
 pub fn to_pass(
-    frame: &Frame<'_>,
+    fitting: &FittingFrame<'_>,
     slots: u64,
     from: u32,
     status: Status,
     tried: u64,
     cache: &mut Cache,
 ) -> Next
-    requires { FrameFits (frame_in frame.now) × PassCacheValid (frame_in frame.now) cache.old × (from ≤ length frame.now.passes.now / 3) }
-    ensures next { (w p : List ℕ) (s : List Float) → result ≡ to_pass (feed (data_of (frame_in frame.now) slots w p s)) frame.now.config.cap (length frame.now.passes.now / 3 - from) from status tried }
-    ensures caches { CacheAfter (frame_in frame.now) cache.old cache.new }
+    requires { PassCacheValid (frame_in fitting.now.frame) cache.old × (from ≤ length fitting.now.frame.passes.now / 3) }
+    ensures next { (w p : List ℕ) (s : List Float) → result ≡ to_pass (feed (data_of (frame_in fitting.now.frame) slots w p s)) fitting.now.frame.config.cap (length fitting.now.frame.passes.now / 3 - from) from status tried }
+    ensures caches { CacheAfter (frame_in fitting.now.frame) cache.old cache.new }
 {
-    let n = (frame.passes.len() / 3) as u32;
+    let n = (fitting.frame.passes.len() / 3) as u32;
     let mut s = status;
     for i in from..n {
-        if reached(frame.config.cap, tried) {
+        if reached(fitting.frame.config.cap, tried) {
             return Next::Ends(Status::Timeout);
         }
-        let kept = cache.rebuild_pass(frame, i);
-        match crate::pass_start::start_pass(kept, slots, frame.config.patterns) {
+        let kept = cache.rebuild_pass(fitting, i);
+        match crate::pass_start::start_pass(kept, slots, fitting.frame.config.patterns) {
             PassStart::First(q) => return Next::Goes(Position::first_of(i, q)),
             PassStart::Over(t) => s = t,
         }

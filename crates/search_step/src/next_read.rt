@@ -5,56 +5,62 @@ ghost use Rattle.undivided_run.specs.Step.{after_combination, after_key, next_re
 ghost use Rattle.search_feed.specs.Data.{data_of};
 ghost use Rattle.search_feed.specs.Lent.{frame_in};
 ghost use Rattle.search_feed.specs.Feed.{feed};
-ghost use Rattle.search_feed.specs.Claims.{FrameFits};
 ghost use Rattle.search_step.specs.CacheAfter.{CacheAfter};
 ghost use Rattle.search_step.specs.LoadedRead.{LoadedRead};
 
 use search_cache::pass::Cache;
 use search_cache::read::Loaded;
-use search_feed::lent::Frame;
+use search_feed::lent::FittingFrame;
 use undivided_run::state::{Next, Position, Status};
 
 // The read after the last of a combination: the next combination of the pass, or the passes after.
 fn after_combination(
-    frame: &Frame<'_>,
+    fitting: &FittingFrame<'_>,
     slots: u64,
     p: Position,
     loaded: Loaded,
     tried: u64,
     cache: &mut Cache,
 ) -> Next
-    requires { FrameFits (frame_in frame.now) × LoadedRead (frame_in frame.now) slots cache.old loaded p }
-    ensures next { (w e : List ℕ) (s : List Float) → result ≡ after_combination (feed (data_of (frame_in frame.now) slots w e s)) frame.now.config.cap p.pass p.four tried }
-    ensures caches { CacheAfter (frame_in frame.now) cache.old cache.new }
+    requires { LoadedRead (frame_in fitting.now.frame) slots cache.old loaded p }
+    ensures next { (w e : List ℕ) (s : List Float) → result ≡ after_combination (feed (data_of (frame_in fitting.now.frame) slots w e s)) fitting.now.frame.config.cap p.pass p.four tried }
+    ensures caches { CacheAfter (frame_in fitting.now.frame) cache.old cache.new }
 {
     match p.four.next(loaded.kept) {
-        Some(q) => Next::to_combination(frame.config.cap, tried, p.pass, q),
-        None => crate::next_pass::to_pass(frame, slots, p.pass + 1, Status::NoMatch, tried, cache),
+        Some(q) => Next::to_combination(fitting.frame.config.cap, tried, p.pass, q),
+        None => crate::next_pass::to_pass(
+            fitting,
+            slots,
+            p.pass + 1,
+            Status::NoMatch,
+            tried,
+            cache,
+        ),
     }
 }
 
 // The read after the last of a key: the next key of the combination, or what comes after the combination.
 fn after_key(
-    frame: &Frame<'_>,
+    fitting: &FittingFrame<'_>,
     slots: u64,
     p: Position,
     loaded: Loaded,
     tried: u64,
     cache: &mut Cache,
 ) -> Next
-    requires { FrameFits (frame_in frame.now) × LoadedRead (frame_in frame.now) slots cache.old loaded p }
-    ensures next { (w e : List ℕ) (s : List Float) → result ≡ after_key (feed (data_of (frame_in frame.now) slots w e s)) frame.now.config.cap p.pass p.four p.key tried }
-    ensures caches { CacheAfter (frame_in frame.now) cache.old cache.new }
+    requires { LoadedRead (frame_in fitting.now.frame) slots cache.old loaded p }
+    ensures next { (w e : List ℕ) (s : List Float) → result ≡ after_key (feed (data_of (frame_in fitting.now.frame) slots w e s)) fitting.now.frame.config.cap p.pass p.four p.key tried }
+    ensures caches { CacheAfter (frame_in fitting.now.frame) cache.old cache.new }
 {
     if p.key + 1 < loaded.keys {
         return Next::Goes(p.next_key());
     }
-    after_combination(frame, slots, p, loaded, tried, cache)
+    after_combination(fitting, slots, p, loaded, tried, cache)
 }
 
 // The read after this one, whose slot is filled or not, with the combinations tried by then.
 pub fn after(
-    frame: &Frame<'_>,
+    fitting: &FittingFrame<'_>,
     slots: u64,
     p: Position,
     loaded: Loaded,
@@ -62,12 +68,12 @@ pub fn after(
     tried: u64,
     cache: &mut Cache,
 ) -> Next
-    requires { FrameFits (frame_in frame.now) × LoadedRead (frame_in frame.now) slots cache.old loaded p }
-    ensures next { (w e : List ℕ) (s : List Float) → full ≡ filled (feed (data_of (frame_in frame.now) slots w e s)) p → result ≡ next_read (feed (data_of (frame_in frame.now) slots w e s)) frame.now.config.cap p tried }
-    ensures caches { CacheAfter (frame_in frame.now) cache.old cache.new }
+    requires { LoadedRead (frame_in fitting.now.frame) slots cache.old loaded p }
+    ensures next { (w e : List ℕ) (s : List Float) → full ≡ filled (feed (data_of (frame_in fitting.now.frame) slots w e s)) p → result ≡ next_read (feed (data_of (frame_in fitting.now.frame) slots w e s)) fitting.now.frame.config.cap p tried }
+    ensures caches { CacheAfter (frame_in fitting.now.frame) cache.old cache.new }
 {
     if full && ((p.probe + 1) as u64) < slots {
         return Next::Goes(p.next_probe());
     }
-    after_key(frame, slots, p, loaded, tried, cache)
+    after_key(fitting, slots, p, loaded, tried, cache)
 }

@@ -5,18 +5,17 @@ ghost use Rattle.undivided_run.specs.CallInvariant.{after_read};
 ghost use Rattle.search_feed.specs.Data.{data_of};
 ghost use Rattle.search_feed.specs.Lent.{frame_in};
 ghost use Rattle.search_feed.specs.Feed.{feed};
-ghost use Rattle.search_feed.specs.Claims.{FrameFits};
 ghost use Rattle.search_step.specs.CacheAfter.{CacheAfter};
 ghost use Rattle.search_step.specs.LoadedRead.{LoadedRead};
 
 use search_cache::pass::Cache;
 use search_cache::read::Loaded;
-use search_feed::lent::Frame;
+use search_feed::lent::FittingFrame;
 use undivided_run::state::{Cursor, Position};
 
 // Counts the read p, and its combination if p is the combination's first read, and works out what comes after p.
 pub fn step(
-    frame: &Frame<'_>,
+    fitting: &FittingFrame<'_>,
     slots: u64,
     p: Position,
     loaded: Loaded,
@@ -24,12 +23,12 @@ pub fn step(
     cursor: Cursor,
     cache: &mut Cache,
 ) -> Cursor
-    requires { FrameFits (frame_in frame.now) × LoadedRead (frame_in frame.now) slots cache.old loaded p × (cursor.patterns < 9223372036854775808) × (cursor.reads < 9223372036854775808) }
-    ensures cursor { (w e : List ℕ) (s : List Float) → full ≡ filled (feed (data_of (frame_in frame.now) slots w e s)) p → result ≡ after_read (feed (data_of (frame_in frame.now) slots w e s)) frame.now.config.cap cursor p }
-    ensures caches { CacheAfter (frame_in frame.now) cache.old cache.new }
+    requires { LoadedRead (frame_in fitting.now.frame) slots cache.old loaded p × (cursor.patterns < 9223372036854775808) × (cursor.reads < 9223372036854775808) }
+    ensures cursor { (w e : List ℕ) (s : List Float) → full ≡ filled (feed (data_of (frame_in fitting.now.frame) slots w e s)) p → result ≡ after_read (feed (data_of (frame_in fitting.now.frame) slots w e s)) fitting.now.frame.config.cap cursor p }
+    ensures caches { CacheAfter (frame_in fitting.now.frame) cache.old cache.new }
 {
     let n = p.count(cursor.patterns);
-    let next = crate::next_read::after(frame, slots, p, loaded, full, n, cache);
+    let next = crate::next_read::after(fitting, slots, p, loaded, full, n, cache);
     Cursor {
         next,
         patterns: n,

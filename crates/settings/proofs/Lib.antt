@@ -1,4 +1,3 @@
 pub mod Ceiling
 pub mod SettingsLimits
-pub mod Joined
 pub mod PassLimits

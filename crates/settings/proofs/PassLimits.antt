@@ -4,12 +4,12 @@ use Prim.Native.Nat.{ℕ, zero, suc, ◌/◌, ◌%◌, ◌≤◌, ◌<◌}
 use native.Mathlib.Omega.{arith}
 use mathlib.Core.Logic.{inl, inr}
 use native.Mathlib.Nat.{eq-or-lt_of_le}
-use mathlib.Core.Bool.{Bool, true, false, ◌&&◌}
+use mathlib.Core.Bool.{true, ◌&&◌}
 use mathlib.Core.List.{List}
 use lib.Dec.{leb, eqb}
 use lib.ListN.{length}
 use lib.Ieee.{Float}
-use borrow.Author.Tests.{leb-true, eq-eqb, ne_eqb, le-leb, lt-leb}
+use borrow.Author.Tests.{leb-true}
 use Rattle.std.specs.List.{list_all, range_with_len}
 use Rattle.numeric.proofs.AllBelow.{all_more}
 use Rattle.numeric.proofs.Tests.{both}
@@ -56,23 +56,3 @@ passes_fitting ps h =
       scales = λ i l. (both (scale_fits (pass_at ps i).scale) _ (both (field_fits (pass_at ps i).field) _ (each i l)).1).0;
       cosines = λ i l. (both (scale_fits (pass_at ps i).scale) _ (both (field_fits (pass_at ps i).field) _ (each i l)).1).1;
     }
-
--- ---- Question 5, test by test.
-module _ (ps : List Float) where
-  pub five_1 : (length ps % 3 ≡ 0 → ⊥) → false ≡ passes_fit ps
-  unfolding passes_fit
-  five_1 h = rw (ne_eqb (length ps % 3) 0 h)
-
-  module _ (h1 : length ps % 3 ≡ 0) where
-    pub five_2 : length ps < 3 → false ≡ passes_fit ps
-    unfolding passes_fit
-    five_2 h = rw (eq-eqb (length ps % 3) 0 h1, lt-leb 3 (length ps) h)
-
-    module _ (h2 : 3 ≤ length ps) where
-      pub five_3 : 768 < length ps → false ≡ passes_fit ps
-      unfolding passes_fit
-      five_3 h = rw (eq-eqb (length ps % 3) 0 h1, le-leb 3 (length ps) h2, lt-leb (length ps) 768 h)
-
-      pub five_4 : length ps ≤ 768 → (b : Bool) → b ≡ first_fit ps (length ps / 3) → b ≡ passes_fit ps
-      unfolding passes_fit
-      five_4 h b e = rw (eq-eqb (length ps % 3) 0 h1, le-leb 3 (length ps) h2, le-leb (length ps) 768 h) e

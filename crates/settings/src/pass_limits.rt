@@ -6,28 +6,19 @@ ghost use Rattle.settings.specs.PassLimits.{field_fits, scale_fits, cosine_fits}
 pub fn field_fits(x: f32) -> bool
     ensures { result ≡ field_fits x }
 {
-    if 0.0 < x {
-        return x < 3.1415927;
-    }
-    false
+    0.0 < x && x < 3.1415927
 }
 
 // Whether a pixel scale is above 0 and at most 16.
 pub fn scale_fits(x: f32) -> bool
     ensures { result ≡ scale_fits x }
 {
-    if 0.0 < x {
-        return x <= 16.0;
-    }
-    false
+    0.0 < x && x <= 16.0
 }
 
 // Whether a cosine is from -1 to 1.
 pub fn cosine_fits(x: f32) -> bool
     ensures { result ≡ cosine_fits x }
 {
-    if -1.0 <= x {
-        return x <= 1.0;
-    }
-    false
+    -1.0 <= x && x <= 1.0
 }

@@ -12,16 +12,13 @@ pub struct Pass {
 
 impl Pass {
     // Returns whether the three numbers of the pass lie within question 5's limits.
+    #[tactic(auto, unfolding(crate::specs::Passes::pass_fits))]
     fn fits(self) -> bool
         ensures { result ≡ pass_fits self }
     {
-        if !crate::pass_limits::field_fits(self.field) {
-            return false;
-        }
-        if !crate::pass_limits::scale_fits(self.scale) {
-            return false;
-        }
-        crate::pass_limits::cosine_fits(self.cosine)
+        crate::pass_limits::field_fits(self.field)
+            && crate::pass_limits::scale_fits(self.scale)
+            && crate::pass_limits::cosine_fits(self.cosine)
     }
 }
 
@@ -47,17 +44,12 @@ fn first_fit(passes: &[f32], n: u32) -> bool
 }
 
 // Question 5: is the pass slice 1 to 256 whole triples, each within its limits?
+#[tactic(auto, unfolding(crate::specs::Passes::passes_fit))]
 pub fn passes_fit(passes: &[f32]) -> bool
     ensures { result ≡ passes_fit passes.now }
 {
-    if passes.len() % 3 != 0 {
-        return false;
-    }
-    if passes.len() < 3 {
-        return false;
-    }
-    if passes.len() > 768 {
-        return false;
-    }
-    first_fit(passes, (passes.len() / 3) as u32)
+    passes.len() % 3 == 0
+        && passes.len() >= 3
+        && passes.len() <= 768
+        && first_fit(passes, (passes.len() / 3) as u32)
 }

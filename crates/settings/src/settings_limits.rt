@@ -24,32 +24,14 @@ pub fn settings_fit(
 ) -> bool
     ensures { result ≡ settings_fit bins stars table radius own field }
 {
-    if bins < 1 {
-        return false;
-    }
-    if bins > 4096 {
-        return false;
-    }
-    if stars > 64 {
-        return false;
-    }
-    if !(0.0 <= table) {
-        return false;
-    }
-    if !(table <= 1.0) {
-        return false;
-    }
-    if !numeric::magnitude::is_finite(radius) {
-        return false;
-    }
-    if !(0.0 <= radius) {
-        return false;
-    }
-    if !crate::tolerance::option_fits(own) {
-        return false;
-    }
-    if !crate::tolerance::option_fits(field) {
-        return false;
-    }
-    narrow(own, table, bins)
+    bins >= 1
+        && bins <= 4096
+        && stars <= 64
+        && 0.0 <= table
+        && table <= 1.0
+        && numeric::magnitude::is_finite(radius)
+        && 0.0 <= radius
+        && crate::tolerance::option_fits(own)
+        && crate::tolerance::option_fits(field)
+        && narrow(own, table, bins)
 }

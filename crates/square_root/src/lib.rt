@@ -57,12 +57,11 @@ fn nearest(n: u64, q: u64) -> u64
     ensures { Nearest n result }
 {
     let k = q * q;
-    if k < n + q {
-        if n <= k + q {
-            return q;
-        }
+    if k < n + q && n <= k + q {
+        q
+    } else {
+        search(n)
     }
-    search(n)
 }
 
 // Returns the bit pattern of the root of m * 2^(e - 173), for an m of 24 binary digits.

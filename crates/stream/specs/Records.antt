@@ -16,7 +16,7 @@ use Rattle.search_feed.specs.declared.SearchConfig.{SearchConfig}
 use Rattle.stream.specs.declared.records.Inputs.{Inputs}
 use Rattle.stream.specs.declared.records.Record.{Record}
 use Rattle.stream.specs.declared.records.Request.{Request}
-use Rattle.stream.specs.declared.records.Request.TheVariants.{Nothing, Call, Run, Open, Slot, Sweep, Complete}
+use Rattle.stream.specs.declared.records.Request.TheVariants.{Call, Run, Open, Slot, Sweep, Complete}
 
 -- The f32 whose bits a word holds.
 abbrev pub float_of : ℕ → Float
@@ -75,7 +75,7 @@ unfoldable pub at_start : Inputs
 at_start =
     record {
       table = record { slots = 0; words = 0; packed = 0; stars = 0 };
-      frame = record { coords = 0; places = 0; triples = 0 };
+      frame = record { centroids = 0; order = 0; passes = 0 };
       config =
           record {
             bins = 0;
@@ -105,7 +105,7 @@ unfoldable pub with_frame : Words → Inputs → Inputs
 with_frame w d =
     record {
       table = d.table;
-      frame = record { coords = slice_index w 0; places = slice_index w 1; triples = slice_index w 2 };
+      frame = record { centroids = slice_index w 0; order = slice_index w 1; passes = slice_index w 2 };
       config = d.config;
       state = d.state;
     }
@@ -127,32 +127,32 @@ inputs_after kind w d =
     (cond (eqb kind 4) (with_state start d)
     d)))
 
--- What a record of any kind but 5 asks for; none where its kind is unknown. A record that sets something asks for nothing.
-unfoldable pub request_of : ℕ → Words → Option Request
+-- What a record of any kind but 5 asks for: `Some None` for one that sets something and so asks for nothing, none where its kind is unknown.
+unfoldable pub request_of : ℕ → Words → Option (Option Request)
 request_of kind w =
-    cond (eqb kind 1) (Some Nothing)
-    (cond (eqb kind 2) (Some Nothing)
-    (cond (eqb kind 3) (Some Nothing)
-    (cond (eqb kind 4) (Some Nothing)
-    (cond (eqb kind 6) (Some (Call (long_of (slice_index w 0) (slice_index w 1))))
-    (cond (eqb kind 7) (Some (Run (long_of (slice_index w 0) (slice_index w 1))))
-    (cond (eqb kind 8) (Some Open)
-    (cond (eqb kind 9) (Some (Slot (long_of (slice_index w 0) (slice_index w 1))))
-    (cond (eqb kind 10) (Some Sweep)
-    (cond (eqb kind 11) (Some Complete)
+    cond (eqb kind 1) (Some None)
+    (cond (eqb kind 2) (Some None)
+    (cond (eqb kind 3) (Some None)
+    (cond (eqb kind 4) (Some None)
+    (cond (eqb kind 6) (Some (Some (Call (long_of (slice_index w 0) (slice_index w 1)))))
+    (cond (eqb kind 7) (Some (Some (Run (long_of (slice_index w 0) (slice_index w 1)))))
+    (cond (eqb kind 8) (Some (Some Open))
+    (cond (eqb kind 9) (Some (Some (Slot (long_of (slice_index w 0) (slice_index w 1)))))
+    (cond (eqb kind 10) (Some (Some Sweep))
+    (cond (eqb kind 11) (Some (Some Complete))
     None)))))))))
 
 -- The effect of a state record, kind 5, given the state that it names; none where its phase or status is unknown, since it can't be read then.
 abbrev pub state_taken : Option State → Words → Inputs → Option Record
-state_taken (Some s) w d = Some (record { request = Nothing; words = w; inputs = with_state s d })
+state_taken (Some s) w d = Some (record { request = None; words = w; inputs = with_state s d })
 state_taken None w d = None
 
 -- The effect of a state record whose payload begins with the words w.
 abbrev pub state_record : Words → Inputs → Option Record
 state_record w d = state_taken (state_of (slice_index w 0) w) w d
 
--- The effect of a record that asks for this and leaves these inputs; none where it can't be read, so that it asks for nothing that is known.
-abbrev pub effect : Option Request → Words → Inputs → Option Record
+-- The effect of a record that leaves these inputs, given what `request_of` says of it; none where its kind is unknown, since it can't be read then.
+abbrev pub effect : Option (Option Request) → Words → Inputs → Option Record
 effect (Some r) w d = Some (record { request = r; words = w; inputs = d })
 effect None w d = None
 

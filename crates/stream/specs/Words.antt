@@ -7,7 +7,7 @@
 --
 --   kind         payload, in words of 32 bits
 --    1 table     slots, words, bytes, floats; then words × u64, the bytes padded with 0 to a multiple of 4, floats × f32
---    2 frame     coords, places, triples; then coords × f32, places × u32, triples × f32
+--    2 frame     centroids, order, passes; then centroids × f32, order × u32, passes × f32
 --    3 settings  bins, checking stars, table error f32, match radius f32, match_max_error (present, f32), fov_max_error_rad (present, f32),
 --                cap (present, u64), pattern count u64
 --    4 fresh     none
@@ -55,7 +55,7 @@ table_size longs bytes floats = 16 + longs * 8 + bytes + padding_of bytes + floa
 
 -- The length in bytes of a frame's payload with these counts.
 abbrev pub frame_size : ℕ → ℕ → ℕ → ℕ
-frame_size coords places triples = 12 + coords * 4 + places * 4 + triples * 4
+frame_size centroids order passes = 12 + centroids * 4 + order * 4 + passes * 4
 
 -- The length in bytes of a payload of this kind that begins with the words w.
 unfoldable pub size_of : ℕ → Words → ℕ

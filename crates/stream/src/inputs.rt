@@ -2,7 +2,7 @@
 ghost use Rattle.std.specs.Prelude.{◌≡◌};
 ghost use Rattle.stream.specs.Records.{at_start, with_table, with_frame, with_config, with_state};
 
-use crate::records::{Frame, Inputs, Table};
+use crate::records::{FrameCounts, Inputs, TableCounts};
 use crate::words::Words;
 use search_feed::SearchConfig;
 use settings::tolerance::Tolerance;
@@ -13,16 +13,16 @@ use undivided_run::state::State;
 pub fn start() -> Inputs
     ensures { result ≡ at_start }
 {
-    let table = Table {
+    let table = TableCounts {
         slots: 0,
         words: 0,
         packed: 0,
         stars: 0,
     };
-    let frame = Frame {
-        coords: 0,
-        places: 0,
-        triples: 0,
+    let frame = FrameCounts {
+        centroids: 0,
+        order: 0,
+        passes: 0,
     };
     let config = SearchConfig {
         bins: 0,
@@ -48,7 +48,7 @@ impl Inputs {
     pub fn with_table(self, w: Words) -> Inputs
         ensures { result ≡ with_table w self }
     {
-        let table = Table {
+        let table = TableCounts {
             slots: u64::from(w[0]),
             words: w[1],
             packed: w[2],
@@ -62,10 +62,10 @@ impl Inputs {
     pub fn with_frame(self, w: Words) -> Inputs
         ensures { result ≡ with_frame w self }
     {
-        let frame = Frame {
-            coords: w[0],
-            places: w[1],
-            triples: w[2],
+        let frame = FrameCounts {
+            centroids: w[0],
+            order: w[1],
+            passes: w[2],
         };
         Inputs { frame, ..self }
     }

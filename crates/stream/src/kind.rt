@@ -3,6 +3,7 @@ ghost use Rattle.std.specs.Prelude.{◌≡◌};
 ghost use Rattle.stream.specs.Kind.{kind_of};
 
 // What a record is about. The table at the head of specs/Words.antt has the number and the payload of each kind.
+// Kept: `Unknown` and not an Option of a kind, so that what is asked of a kind has its answer for every number.
 #[derive(Clone, Copy, Debug, PartialEq, Eq)]
 pub enum Kind {
     Table,

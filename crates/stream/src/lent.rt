@@ -10,16 +10,16 @@ use crate::records::Inputs;
 use search_feed::lent::{Frame, Table};
 
 // What a stream is read into: the inputs that its records have set so far, and the arrays of a table (block words, packed section and star
-// slice) and of a frame (coordinates, brightness list and pass triples), with the room that the format allows.
+// slice) and of a frame (centroids, brightness list and passes), with the room that the format allows.
 #[derive(Drop)]
 pub struct Lent {
     pub inputs: Inputs,
     pub words: [u64; 2560],
     pub packed: [u8; 1500000],
     pub stars: [f32; 200000],
-    pub coords: [f32; 640],
-    pub places: [u32; 320],
-    pub triples: [f32; 900],
+    pub centroids: [f32; 640],
+    pub order: [u32; 320],
+    pub passes: [f32; 900],
 }
 
 // Returns the first n elements of a lent slice, or none where it is shorter.
@@ -38,18 +38,18 @@ impl Lent {
         ensures words { result.words ≡ room 2560 0 }
         ensures packed { result.packed ≡ room 1500000 0 }
         ensures stars { result.stars ≡ room 200000 (of_bits binary32 0) }
-        ensures coords { result.coords ≡ room 640 (of_bits binary32 0) }
-        ensures places { result.places ≡ room 320 0 }
-        ensures triples { result.triples ≡ room 900 (of_bits binary32 0) }
+        ensures centroids { result.centroids ≡ room 640 (of_bits binary32 0) }
+        ensures order { result.order ≡ room 320 0 }
+        ensures passes { result.passes ≡ room 900 (of_bits binary32 0) }
     {
         Lent {
             inputs: start(),
             words: [0; 2560],
             packed: [0; 1500000],
             stars: [0.0; 200000],
-            coords: [0.0; 640],
-            places: [0; 320],
-            triples: [0.0; 900],
+            centroids: [0.0; 640],
+            order: [0; 320],
+            passes: [0.0; 900],
         }
     }
 
@@ -74,39 +74,39 @@ impl Lent {
         first_of(&self.stars, self.inputs.table.stars)
     }
 
-    // Returns the coordinates of the frame.
-    pub fn coords(&self) -> &[f32]
-        ensures { result.now ≡ first_of self.now.inputs.frame.coords self.now.coords }
+    // Returns the centroids of the frame.
+    pub fn centroids(&self) -> &[f32]
+        ensures { result.now ≡ first_of self.now.inputs.frame.centroids self.now.centroids }
     {
-        first_of(&self.coords, self.inputs.frame.coords)
+        first_of(&self.centroids, self.inputs.frame.centroids)
     }
 
     // Returns the brightness list of the frame.
-    pub fn places(&self) -> &[u32]
-        ensures { result.now ≡ first_of self.now.inputs.frame.places self.now.places }
+    pub fn order(&self) -> &[u32]
+        ensures { result.now ≡ first_of self.now.inputs.frame.order self.now.order }
     {
-        first_of(&self.places, self.inputs.frame.places)
+        first_of(&self.order, self.inputs.frame.order)
     }
 
-    // Returns the pass triples of the frame.
-    pub fn triples(&self) -> &[f32]
-        ensures { result.now ≡ first_of self.now.inputs.frame.triples self.now.triples }
+    // Returns the passes of the frame.
+    pub fn passes(&self) -> &[f32]
+        ensures { result.now ≡ first_of self.now.inputs.frame.passes self.now.passes }
     {
-        first_of(&self.triples, self.inputs.frame.triples)
+        first_of(&self.passes, self.inputs.frame.passes)
     }
 
     // Returns the frame of a search.
     pub fn frame(&self) -> Frame<'_>
-        ensures centroids { result.centroids.now ≡ first_of self.now.inputs.frame.coords self.now.coords }
-        ensures order { result.order.now ≡ first_of self.now.inputs.frame.places self.now.places }
+        ensures centroids { result.centroids.now ≡ first_of self.now.inputs.frame.centroids self.now.centroids }
+        ensures order { result.order.now ≡ first_of self.now.inputs.frame.order self.now.order }
         ensures config { result.config ≡ self.now.inputs.config }
-        ensures passes { result.passes.now ≡ first_of self.now.inputs.frame.triples self.now.triples }
+        ensures passes { result.passes.now ≡ first_of self.now.inputs.frame.passes self.now.passes }
     {
         Frame {
-            centroids: self.coords(),
-            order: self.places(),
+            centroids: self.centroids(),
+            order: self.order(),
             config: self.inputs.config,
-            passes: self.triples(),
+            passes: self.passes(),
         }
     }
 

@@ -23,9 +23,9 @@ impl Lent {
 
     // Reads the three arrays of a frame whose payload begins with the words w.
     fn fill_frame<R: Read>(&mut self, input: &mut R, w: Words) -> Result<(), Broken> {
-        fill(input, &mut self.coords, w[0])?;
-        fill(input, &mut self.places, w[1])?;
-        fill(input, &mut self.triples, w[2])
+        fill(input, &mut self.centroids, w[0])?;
+        fill(input, &mut self.order, w[1])?;
+        fill(input, &mut self.passes, w[2])
     }
 
     // Reads the arrays of a payload that begins with the words w, where its kind has any.

@@ -19,20 +19,17 @@ pub fn record_of(kind: Kind, w: Words, inputs: Inputs) -> Result<Record, Broken>
 {
     let long = long_of(w[0], w[1]);
     let (request, after) = match kind {
-        Kind::Table => (Request::Nothing, inputs.with_table(w)),
-        Kind::Frame => (Request::Nothing, inputs.with_frame(w)),
-        Kind::Settings => (Request::Nothing, inputs.with_config(config_of(w))),
-        Kind::Fresh => (Request::Nothing, inputs.with_state(State::fresh())),
-        Kind::State => (
-            Request::Nothing,
-            inputs.with_state(state_of(w[0], w).ok_or(Broken)?),
-        ),
-        Kind::Call => (Request::Call(long), inputs),
-        Kind::Run => (Request::Run(long), inputs),
-        Kind::Open => (Request::Open, inputs),
-        Kind::Slot => (Request::Slot(long), inputs),
-        Kind::Sweep => (Request::Sweep, inputs),
-        Kind::Complete => (Request::Complete, inputs),
+        Kind::Table => (None, inputs.with_table(w)),
+        Kind::Frame => (None, inputs.with_frame(w)),
+        Kind::Settings => (None, inputs.with_config(config_of(w))),
+        Kind::Fresh => (None, inputs.with_state(State::fresh())),
+        Kind::State => (None, inputs.with_state(state_of(w[0], w).ok_or(Broken)?)),
+        Kind::Call => (Some(Request::Call(long)), inputs),
+        Kind::Run => (Some(Request::Run(long)), inputs),
+        Kind::Open => (Some(Request::Open), inputs),
+        Kind::Slot => (Some(Request::Slot(long)), inputs),
+        Kind::Sweep => (Some(Request::Sweep), inputs),
+        Kind::Complete => (Some(Request::Complete), inputs),
         Kind::Unknown => return Err(Broken),
     };
     Ok(Record {

@@ -30,10 +30,10 @@ fn table_size(longs: u32, bytes: u32, floats: u32) -> u64
 }
 
 // Returns the length in bytes of a frame's payload with these counts.
-fn frame_size(coords: u32, places: u32, triples: u32) -> u64
-    ensures { result ≡ frame_size coords places triples }
+fn frame_size(centroids: u32, order: u32, passes: u32) -> u64
+    ensures { result ≡ frame_size centroids order passes }
 {
-    12 + u64::from(coords) * 4 + u64::from(places) * 4 + u64::from(triples) * 4
+    12 + u64::from(centroids) * 4 + u64::from(order) * 4 + u64::from(passes) * 4
 }
 
 // Returns whether the counts a, b and c are at most x, y and z.

@@ -9,6 +9,8 @@ use native.Mathlib.Nat.{zero-add, suc-add}
 use lib.ListN.{length, take, set, length-append, length-set}
 use lib.Seq.{take-suc-set, take-append_seam, take_all}
 use lib.Ieee.{Float}
+use Rattle.preprocess.specs.declared.brightness_list.Place.{Place}
+use Rattle.preprocess.specs.BrightnessList.{place_of}
 use Rattle.thinning.specs.KeptList.{thinned, kept_of, Kept}
 use Rattle.thinning.specs.Separation.{too_close}
 
@@ -24,19 +26,19 @@ module _ (c : Float) (spot : ℕ → List Float) where
 
   module _ (most : ℕ) where
     -- What the arrays hold after i places of the brightness list, of which m are kept.
-    pub record Thinned (i m : ℕ) (places : List ℕ) (dirs : List (List Float)) : Type 0 where
+    pub record Thinned (i m : ℕ) (places : List Place) (dirs : List (List Float)) : Type 0 where
       pub count : m ≡ length (thinned c spot i)
       pub few : m ≤ most
-      pub places_are : take m places ≡ thinned c spot i
+      pub places_are : take m places ≡ map place_of (thinned c spot i)
       pub dirs_are : take m dirs ≡ map spot (thinned c spot i)
       pub places_long : length places ≡ 64
       pub dirs_long : length dirs ≡ 64
 
-    pub thin_none : (places : List ℕ) (dirs : List (List Float)) → length places ≡ 64 → length dirs ≡ 64 → Thinned 0 0 places dirs
+    pub thin_none : (places : List Place) (dirs : List (List Float)) → length places ≡ 64 → length dirs ≡ 64 → Thinned 0 0 places dirs
     unfolding thinned
     thin_none places dirs p d = record { count = refl; few = omega arith; places_are = refl; dirs_are = refl; places_long = p; dirs_long = d }
 
-    module _ (i m : ℕ) (places : List ℕ) (dirs : List (List Float)) (h : Thinned i m places dirs) where
+    module _ (i m : ℕ) (places : List Place) (dirs : List (List Float)) (h : Thinned i m places dirs) where
       pub thin_skip : too_close c (spot i) (take m dirs) ≡ true → Thinned (suc i) m places dirs
       unfolding thinned
       thin_skip k =
@@ -44,7 +46,7 @@ module _ (c : Float) (spot : ℕ → List Float) where
           record {
             count = h.count ∙ ap length (sym e);
             few = h.few;
-            places_are = h.places_are ∙ sym e;
+            places_are = h.places_are ∙ ap (map place_of) (sym e);
             dirs_are = h.dirs_are ∙ ap (map spot) (sym e);
             places_long = h.places_long;
             dirs_long = h.dirs_long;
@@ -55,18 +57,18 @@ module _ (c : Float) (spot : ℕ → List Float) where
         unfolding thinned
         grown = rw (← h.dirs_are, k)
 
-        mapped : (xs ys : List ℕ) → map spot (xs ++ ys) ≡ map spot xs ++ map spot ys
-        mapped [] ys = refl
-        mapped (x ∷ xs) ys = ap (spot x ∷◌) (mapped xs ys)
+        mapped : {A : Type 0} (f : ℕ → A) (xs ys : List ℕ) → map f (xs ++ ys) ≡ map f xs ++ map f ys
+        mapped f [] ys = refl
+        mapped f (x ∷ xs) ys = ap (f x ∷◌) (mapped f xs ys)
 
-        pub thin_keep : m < most → most ≤ 64 → (v : List Float) → v ≡ spot i → Thinned (suc i) (suc m) (set places m i) (set dirs m v)
+        pub thin_keep : m < most → most ≤ 64 → (v : List Float) → v ≡ spot i → Thinned (suc i) (suc m) (set places m (place_of i)) (set dirs m v)
         thin_keep l q v e =
             record {
               count = (let z : suc m ≡ length (thinned c spot i ++ (i ∷ [])) = omega (arith, h.count, length-append (thinned c spot i) (i ∷ [])) in z ∙ ap length (sym grown));
               few = omega arith;
-              places_are = take-suc-set places m i (omega (arith, h.places_long)) ∙ ap (◌++ (i ∷ [])) h.places_are ∙ sym grown;
-              dirs_are = take-suc-set dirs m v (omega (arith, h.dirs_long)) ∙ ap₂ (λ xs y. xs ++ (y ∷ [])) h.dirs_are e ∙ sym (ap (map spot) grown ∙ mapped (thinned c spot i) (i ∷ []));
-              places_long = length-set places m i ∙ h.places_long;
+              places_are = take-suc-set places m (place_of i) (omega (arith, h.places_long)) ∙ ap (◌++ (place_of i ∷ [])) h.places_are ∙ sym (ap (map place_of) grown ∙ mapped place_of (thinned c spot i) (i ∷ []));
+              dirs_are = take-suc-set dirs m v (omega (arith, h.dirs_long)) ∙ ap₂ (λ xs y. xs ++ (y ∷ [])) h.dirs_are e ∙ sym (ap (map spot) grown ∙ mapped spot (thinned c spot i) (i ∷ []));
+              places_long = length-set places m (place_of i) ∙ h.places_long;
               dirs_long = length-set dirs m v ∙ h.dirs_long;
             }
 
@@ -77,7 +79,7 @@ module _ (c : Float) (spot : ℕ → List Float) where
           let k : kept_of c spot n most ≡ thinned c spot i = ap (λ x. take most (thinned c spot x)) (sym e) ∙ take_all most (thinned c spot i) (omega (arith, h.count, h.few)) in
           record {
             count = h.count ∙ ap length (sym k);
-            places_are = h.places_are ∙ sym k;
+            places_are = h.places_are ∙ ap (map place_of) (sym k);
             dirs_are = h.dirs_are ∙ ap (map spot) (sym k);
             places_long = h.places_long;
             dirs_long = h.dirs_long;
@@ -92,7 +94,7 @@ module _ (c : Float) (spot : ℕ → List Float) where
           let k : kept_of c spot n most ≡ thinned c spot i = ap (λ x. take most (thinned c spot x)) (sym e) ∙ ap (take most) g.1 ∙ ap (λ x. take x (thinned c spot i ++ g.0)) w ∙ take-append_seam (thinned c spot i) g.0 in
           record {
             count = h.count ∙ ap length (sym k);
-            places_are = h.places_are ∙ sym k;
+            places_are = h.places_are ∙ ap (map place_of) (sym k);
             dirs_are = h.dirs_are ∙ ap (map spot) (sym k);
             places_long = h.places_long;
             dirs_long = h.dirs_long;
@@ -100,14 +102,14 @@ module _ (c : Float) (spot : ℕ → List Float) where
 
 -- ---- What the loop keeps: the directions in the columns are those of the kept places.
 module _ (c : Float) (spot : ℕ → List Float) (most : ℕ) where
-  pub record Held (i : ℕ) (places : List ℕ) (dirs cols : List (List Float)) : Type 0 where
+  pub record Held (i : ℕ) (places : List Place) (dirs cols : List (List Float)) : Type 0 where
     pub thinned : Thinned c spot most i (length cols) places dirs
     pub cols_are : cols ≡ take (length cols) dirs
 
-  pub held_none : (places : List ℕ) (dirs cols : List (List Float)) → length places ≡ 64 → length dirs ≡ 64 → cols ≡ [] → Held 0 places dirs cols
+  pub held_none : (places : List Place) (dirs cols : List (List Float)) → length places ≡ 64 → length dirs ≡ 64 → cols ≡ [] → Held 0 places dirs cols
   held_none places dirs cols p d e = rw e (record { thinned = thin_none c spot most places dirs p d; cols_are = refl })
 
-  module _ (i : ℕ) (places places' : List ℕ) (dirs dirs' cols cols' : List (List Float)) (h : Held i places dirs cols) where
+  module _ (i : ℕ) (places places' : List Place) (dirs dirs' cols cols' : List (List Float)) (h : Held i places dirs cols) where
     pub held_skip : too_close c (spot i) cols ≡ true → places' ≡ places → dirs' ≡ dirs → cols' ≡ cols → Held (i + 1) places' dirs' cols'
     held_skip k p q r =
         rw (p, q, r, add-one)
@@ -117,7 +119,7 @@ module _ (c : Float) (spot : ℕ → List Float) (most : ℕ) where
         })
 
     pub held_keep : (m : ℕ) (v : List Float) → m ≡ length cols → v ≡ spot i → too_close c (spot i) cols ≡ false → m < most → most ≤ 64
-        → places' ≡ set places m i → dirs' ≡ set dirs m v → cols' ≡ cols ++ (v ∷ []) → Held (i + 1) places' dirs' cols'
+        → places' ≡ set places m (place_of i) → dirs' ≡ set dirs m v → cols' ≡ cols ++ (v ∷ []) → Held (i + 1) places' dirs' cols'
     held_keep m v n e k l f p q r =
         let long : length (cols ++ (v ∷ [])) ≡ suc (length cols) = omega (arith, length-append cols (v ∷ [])) in
         rw (p, q, r, n, add-one)

@@ -23,14 +23,14 @@ fn look_ahead(centroids: &[f32], order: &[u32], scale: f32, from: usize, ahead: 
 
 // Writes the kept places of a pass, in the order of the brightness list and cut to the first `most`, to `places`, writes their directions
 // to `dirs`, and returns their count. What stands after them in the two arrays is left open.
-// The loop stops once `most` are kept, since the cut would remove any later ones.
+// Kept: fills two arrays that the caller lends, since there is no heap; that the list fits is a clause, since `Frame` is in a crate above.
 pub fn thin(
     centroids: &[f32],
     order: &[u32],
     scale: f32,
     cosine: f32,
     most: u32,
-    places: &mut [u32; 64],
+    places: &mut [Place; 64],
     dirs: &mut [[f32; 3]; 64],
 ) -> u32
     requires { (order_fits order.now centroids.now ≡ true) × (length order.now ≤ 256) × (most ≤ 64) }
@@ -40,6 +40,7 @@ pub fn thin(
     let mut ahead = [[0.0f32; 3]; 8];
     for i in 0..order.len() {
         let kept = cols.len();
+        // The cut would remove any later ones.
         if most as usize <= kept {
             return kept as u32;
         }
@@ -48,7 +49,7 @@ pub fn thin(
         }
         let v = ahead[i % 8];
         if !cols.too_close(cosine, v) {
-            places[kept] = i as u32;
+            places[kept] = Place(i as u32);
             dirs[kept] = v;
             cols.push(v);
         }

@@ -11,7 +11,7 @@ use Rattle.combinations.specs.declared.Combination.{Combination}
 use Rattle.combinations.specs.Combinations.{combination_list}
 use Rattle.combinations.specs.Lists.{each, span, upto}
 use Rattle.undivided_run.specs.Undivided.{Cap}
-use Rattle.std.specs.Prelude.{None as absent, Some as given}
+use Rattle.std.specs.Prelude.{None, Some}
 use Rattle.undivided_run.specs.declared.state.Position.{Position as Read}
 use Rattle.undivided_run.specs.Undivided.{Feed, is_zero, starts, filled, chain, reads_of, undivided}
 use Rattle.undivided_run.specs.Calls.{tried}
@@ -35,8 +35,8 @@ length_spans (suc m) lo = ap suc (length_spans m (suc lo))
 
 pub capped_shorter : {A : Type 0} (c : Cap) (xs : List A) → length (capped c xs) ≤ length xs
 unfolding capped
-capped_shorter absent xs = omega arith
-capped_shorter (given m) xs = omega (arith, length-take m xs)
+capped_shorter None xs = omega arith
+capped_shorter (Some m) xs = omega (arith, length-take m xs)
 
 tried_take : (n : ℕ) (rs : List Read) → tried (take n rs) ≤ tried rs
 unfolding tried

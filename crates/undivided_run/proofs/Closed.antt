@@ -15,7 +15,7 @@ use Rattle.combinations.specs.Lists.{each}
 use Rattle.undivided_run.specs.declared.state.Status.{Status}
 use Rattle.undivided_run.specs.declared.state.Status.TheVariants.{TooFew, NoMatch, Timeout}
 use Rattle.undivided_run.specs.Undivided.{Cap}
-use Rattle.std.specs.Prelude.{None as absent, Some as given}
+use Rattle.std.specs.Prelude.{None, Some}
 use Rattle.undivided_run.specs.declared.state.Position.{Position as Read}
 use Rattle.undivided_run.specs.Undivided.{Run, Feed, reached, is_zero, ended, ◌before◌, reads_of, checked, combinations, passes_from, undivided, gives}
 use Rattle.undivided_run.specs.Calls.{candidates}
@@ -24,8 +24,8 @@ use Rattle.undivided_run.specs.Tried.{capped, combinations_from, all_combination
 
 -- the cap, less what was tried already
 unfoldable pub left : Cap → ℕ → Cap
-left absent n = absent
-left (given m) n = given (m - n)
+left None n = None
+left (Some m) n = Some (m - n)
 
 -- the reads of these combinations
 abbrev pub reads_in : {E C : Type 0} → Feed E C → List (ℕ × Combination) → List Read
@@ -33,24 +33,24 @@ reads_in F xs = each xs λ x. reads_of F x.0 x.1
 
 left_zero : (c : Cap) → left c 0 ≡ c
 unfolding left
-left_zero absent = refl
-left_zero (given m) = ap given (omega arith)
+left_zero None = refl
+left_zero (Some m) = ap Some (omega arith)
 
 pub capped_nil : {A : Type 0} (c : Cap) → capped {A = A} c [] ≡ []
 unfolding capped
-capped_nil absent = refl
-capped_nil (given zero) = refl
-capped_nil (given (suc m)) = refl
+capped_nil None = refl
+capped_nil (Some zero) = refl
+capped_nil (Some (suc m)) = refl
 
 capped_reached : {A : Type 0} (c : Cap) (n : ℕ) (xs : List A) → reached c n ≡ true → capped (left c n) xs ≡ []
 unfolding capped reached left
-capped_reached absent n xs h = cc
-capped_reached (given m) n xs h = let e : m - n ≡ 0 = omega (arith, leb-true m n h) in rw e
+capped_reached None n xs h = cc
+capped_reached (Some m) n xs h = let e : m - n ≡ 0 = omega (arith, leb-true m n h) in rw e
 
 capped_cons : {A : Type 0} (c : Cap) (n : ℕ) (x : A) (xs : List A) → reached c n ≡ false → capped (left c n) (x ∷ xs) ≡ x ∷ capped (left c (suc n)) xs
 unfolding capped reached left
-capped_cons absent n x xs h = refl
-capped_cons (given m) n x xs h = let e : m - n ≡ suc (m - suc n) = omega (arith, leb-false m n h) in rw e
+capped_cons None n x xs h = refl
+capped_cons (Some m) n x xs h = let e : m - n ≡ suc (m - suc n) = omega (arith, leb-false m n h) in rw e
 
 module _ {E C : Type 0} (F : Feed E C) where
   module _ (cap : Cap) where
@@ -90,10 +90,10 @@ module _ {E C : Type 0} (F : Feed E C) where
 
 capped_begins : {A : Type 0} (lo hi : Cap) (xs : List A) → NoHigher lo hi → Begins (capped lo xs) (capped hi xs)
 unfolding capped
-capped_begins absent absent xs h = ([], sym (append-nil xs))
-capped_begins absent (given n) xs h = absurd h
-capped_begins (given m) absent xs h = (drop m xs, sym (take-append-drop m xs))
-capped_begins (given m) (given n) xs h = (take (n - m) (drop m xs), let e : n ≡ m + (n - m) = omega arith in ap (λ k. take k xs) e ∙ take-add m (n - m) xs)
+capped_begins None None xs h = ([], sym (append-nil xs))
+capped_begins None (Some n) xs h = absurd h
+capped_begins (Some m) None xs h = (drop m xs, sym (take-append-drop m xs))
+capped_begins (Some m) (Some n) xs h = (take (n - m) (drop m xs), let e : n ≡ m + (n - m) = omega arith in ap (λ k. take k xs) e ∙ take-add m (n - m) xs)
 
 each_append : {A B : Type 0} (xs ys : List A) (f : A → List B) → each (xs ++ ys) f ≡ each xs f ++ each ys f
 unfolding each

@@ -11,7 +11,7 @@ use Rattle.combinations.specs.Lists.{All}
 use Rattle.combinations.proofs.Lists.{all_append, all_take}
 use Rattle.combinations.proofs.EachCombination.{combinations_rise}
 use Rattle.undivided_run.specs.Undivided.{Cap}
-use Rattle.std.specs.Prelude.{None as absent, Some as given}
+use Rattle.std.specs.Prelude.{None, Some}
 use Rattle.undivided_run.specs.Undivided.{Feed, is_zero}
 use Rattle.undivided_run.specs.PositionExists.{CombinationExists}
 use Rattle.undivided_run.specs.Tried.{capped, combinations_from, all_combinations}
@@ -52,8 +52,8 @@ module _ {E C : Type 0} (F : Feed E C) where
 
   pub capped_fit : (cap : Cap) (xs : List (ℕ × Combination)) → All Fit xs → All Fit (capped cap xs)
   unfolding capped
-  capped_fit absent xs h = h
-  capped_fit (given m) xs h = all_take Fit m xs h
+  capped_fit None xs h = h
+  capped_fit (Some m) xs h = all_take Fit m xs h
 
   -- All combinations that a run tries exist.
   pub all_fit : (cap : Cap) → All Fit (capped cap (all_combinations F))

@@ -9,8 +9,8 @@ use borrow.Author.Tests.{lt-ltb, le-ltb}
 use Rattle.combinations.specs.declared.Combination.{Combination}
 use Rattle.combinations.specs.Successor.{first_combination, next_combination}
 use Rattle.std.specs.Prelude.{Option, None, Some}
-use Rattle.undivided_run.specs.Undivided.{Status, TooFew, NoMatch, Timeout, Read, Feed, Cap, reached, is_zero, cases, filled, starts}
-use Rattle.undivided_run.specs.Step.{Next, goes, ends, count_tried, to_pass, after_combination, after_key, next_read}
+use Rattle.undivided_run.specs.Undivided.{Status, TooFew, NoMatch, Timeout, Read, Feed, Cap, reached, is_zero, cases, filled}
+use Rattle.undivided_run.specs.Step.{Next, goes, ends, to_pass, after_combination, after_key, next_read}
 use Rattle.undivided_run.specs.Moves.{first_of, probed, keyed, to_combination}
 
 pub zero_not : (x : ℕ) → (x ≡ 0 → ⊥) → is_zero x ≡ false
@@ -21,20 +21,6 @@ zero_not (suc x) h = refl
 pub zero_is : (x : ℕ) → x ≡ 0 → is_zero x ≡ true
 unfolding is_zero
 zero_is x h = rw h
-
--- ---- The count of combinations.
-module _ (r : Read) (n : ℕ) where
-  pub count_tried_first : r.probe ≡ 0 → r.key ≡ 0 → n + 1 ≡ count_tried r n
-  unfolding count_tried starts
-  count_tried_first p k = rw (zero_is r.probe p, zero_is r.key k) (omega arith)
-
-  pub count_tried_key : r.probe ≡ 0 → (r.key ≡ 0 → ⊥) → n ≡ count_tried r n
-  unfolding count_tried starts
-  count_tried_key p k = rw (zero_is r.probe p, zero_not r.key k)
-
-  pub count_tried_probe : (r.probe ≡ 0 → ⊥) → n ≡ count_tried r n
-  unfolding count_tried starts
-  count_tried_probe p = rw (zero_not r.probe p)
 
 module _ {E C : Type 0} (F : Feed E C) (cap : Cap) (tried : ℕ) where
   -- ---- The passes from i on.

@@ -3,7 +3,7 @@ use Rattle.std.specs.Prelude.{◌≡◌, ℕ, zero, suc, ◌≤◌, List, [], �
 use Rattle.combinations.specs.declared.Combination.{Combination}
 use Rattle.combinations.specs.Combinations.{combination_list}
 use Rattle.undivided_run.specs.Undivided.{Cap}
-use Rattle.std.specs.Prelude.{None as absent, Some as given}
+use Rattle.std.specs.Prelude.{None, Some}
 use Rattle.undivided_run.specs.declared.state.Position.{Position as Read}
 use Rattle.undivided_run.specs.Undivided.{Feed, is_zero, starts}
 
@@ -14,8 +14,8 @@ tried_in (r ∷ rs) = cond (starts r) ((r.pass, r.four) ∷ tried_in rs) (tried_
 
 -- As many items of a list, from its start, as a cap lets through.
 unfoldable pub capped : {A : Type 0} → Cap → List A → List A
-capped absent xs = xs
-capped (given m) xs = take m xs
+capped None xs = xs
+capped (Some m) xs = take m xs
 
 module _ {E C : Type 0} (F : Feed E C) where
   -- The combinations of the `more` passes from pass i on, each with its pass. A pass with fewer than 4 kept, no slot or no pattern has none.
@@ -36,7 +36,7 @@ Begins xs ys = (zs : List _) × (ys ≡ xs ++ zs)
 
 -- The first cap is not higher than the second. "An absent cap is the highest."
 abbrev pub NoHigher : Cap → Cap → Type 0
-NoHigher absent absent = Unit {0}
-NoHigher absent (given n) = ⊥
-NoHigher (given m) absent = Unit {0}
-NoHigher (given m) (given n) = m ≤ n
+NoHigher None None = Unit {0}
+NoHigher None (Some n) = ⊥
+NoHigher (Some m) None = Unit {0}
+NoHigher (Some m) (Some n) = m ≤ n

@@ -7,7 +7,7 @@ use Rattle.combinations.specs.Lists.{each, upto}
 pub use Rattle.undivided_run.specs.declared.state.Status.{Status}
 pub use Rattle.undivided_run.specs.declared.state.Status.TheVariants.{TooFew, NoMatch, Timeout}
 -- A cap is given with its value or absent.
-pub use Rattle.std.specs.Prelude.{None as absent, Some as given}
+pub use Rattle.std.specs.Prelude.{None, Some}
 -- One read is one probe: it is known by its pass, combination, key number and probe number.
 pub use Rattle.undivided_run.specs.declared.state.Position.{Position as Read}
 
@@ -17,8 +17,8 @@ Cap = Option ℕ
 
 -- A cap already reached by the combinations tried so far.
 unfoldable pub reached : Cap → ℕ → Bool
-reached absent tried = false
-reached (given most) tried = leb most tried
+reached None tried = false
+reached (Some most) tried = leb most tried
 
 -- What the run is fed: data, settings and table. E is a table entry, C a candidate.
 pub record Feed (E C : Type 0) : Type 0 where

@@ -94,13 +94,11 @@ pub struct Cursor {
 
 // Returns whether the cap is reached by the combinations tried so far. The cap is the most combinations that a run may try, where there is such
 // a limit.
+#[tactic(auto, unfolding(crate::specs::Undivided::reached))]
 pub fn reached(cap: Option<u64>, tried: u64) -> bool
     ensures { result ≡ reached cap tried }
 {
-    match cap {
-        None => false,
-        Some(most) => most <= tried,
-    }
+    cap.is_some_and(|most| most <= tried)
 }
 
 impl Next {
@@ -170,36 +168,33 @@ impl Position {
     }
 
     // Returns how many combinations are tried once this read is made, `patterns` before it: one more where it is its combination's first read.
+    #[tactic(auto, unfolding(crate::specs::Step::count_tried, crate::specs::Undivided::starts, crate::specs::Undivided::is_zero))]
     pub fn count(self, patterns: u64) -> u64
         requires { patterns < 9223372036854775808 }
         ensures { result ≡ count_tried self patterns }
     {
-        if self.probe == 0 {
-            if self.key == 0 {
-                return patterns + 1;
-            }
+        if self.probe == 0 && self.key == 0 {
+            patterns + 1
+        } else {
+            patterns
         }
-        patterns
     }
 }
 
 impl Cursor {
     // Returns the state that a call gives back if it stops here.
+    #[tactic(auto, unfolding(crate::specs::Step::phase_of))]
     pub fn state(self) -> State
         ensures { result ≡ record { phase = phase_of self.next; patterns = self.patterns; reads = self.reads } }
     {
-        let w = self.next;
-        match w {
-            Next::Goes(p) => State {
-                phase: Phase::At(p),
-                patterns: self.patterns,
-                reads: self.reads,
-            },
-            Next::Ends(s) => State {
-                phase: Phase::Ended(s),
-                patterns: self.patterns,
-                reads: self.reads,
-            },
+        let phase = match self.next {
+            Next::Goes(p) => Phase::At(p),
+            Next::Ends(s) => Phase::Ended(s),
+        };
+        State {
+            phase,
+            patterns: self.patterns,
+            reads: self.reads,
         }
     }
 }

@@ -1,21 +1,16 @@
--- `complete::question_14::four_valid` meets its contract. Assumes nothing.
-use mathlib.Core.Path.{sym, ◌∙◌}
-use borrow.Author.Tests.{not-true, not-false}
-use Rattle.complete.specs.Question14.{four_valid}
+use lib.ListN.{length}
+use mathlib.Core.Path.{◌≡◌, ◌∙◌}
+use Rattle.std.proofs.Common.{rules, tests}
+use Rattle.std.proofs.lemmas.Iterator.{YieldsList-from_slice}
+use Rattle.std.proofs.lemmas.Iterator.Search.{all_from_yields_List}
+use Rattle.pattern_entry.specs.Stars.{star_valid}
+use Rattle.pattern_entry.specs.declared.stars.StarIndex.{StarIndex}
+use Rattle.complete.proofs.Question14.{all_four}
 use Rattle.complete.proofs.question_14.four_valid.Goals as goal
 
-pub returns-then-not-star_valid : goal.returns-then-not-star_valid
-unfolding four_valid
-returns-then-not-star_valid c = simp (sym c.star_valid.ensures ∙ not-true _ c.if-not-star_valid.true-raw)
-
-pub returns-then-not-star_valid-2 : goal.returns-then-not-star_valid-2
-unfolding four_valid
-returns-then-not-star_valid-2 c = simp (sym c.star_valid.ensures ∙ not-false _ c.if-not-star_valid.false-raw, sym c.star_valid-2.ensures ∙ not-true _ c.if-not-star_valid-2.true-raw)
-
-pub returns-then-not-star_valid-3 : goal.returns-then-not-star_valid-3
-unfolding four_valid
-returns-then-not-star_valid-3 c = simp (sym c.star_valid.ensures ∙ not-false _ c.if-not-star_valid.false-raw, sym c.star_valid-2.ensures ∙ not-false _ c.if-not-star_valid-2.false-raw, sym c.star_valid-3.ensures ∙ not-true _ c.if-not-star_valid-3.true-raw)
-
 pub returns : goal.returns
-unfolding four_valid
-returns c = simp (sym c.star_valid.ensures ∙ not-false _ c.if-not-star_valid.false-raw, sym c.star_valid-2.ensures ∙ not-false _ c.if-not-star_valid-2.false-raw, sym c.star_valid-3.ensures ∙ not-false _ c.if-not-star_valid-3.false-raw, sym c.star_valid-4.ensures)
+returns c =
+    let a = c.args in
+    let four : length a.four ≡ 4 = search rules in
+    all_from_yields_List (λ (i : StarIndex). star_valid a.stars.now i.0) _ _ c.all.result c.all.ensures.ran (YieldsList-from_slice a.four cc) (λ x b q k. search (rules, tests))
+    ∙ all_four a.stars.now a.four four

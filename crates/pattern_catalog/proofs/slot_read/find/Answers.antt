@@ -9,8 +9,8 @@ returns-then-not-table_fits c = let a = c.args in read_6 a.slots a.words.now a.p
 pub returns-then-slot-slots : goal.returns-then-slot-slots
 returns-then-slot-slots c = let a = c.args in read_11 a.slots a.words.now a.packed.now a.slot (sym c.table_fits.ensures ∙ not-false _ c.if-not-table_fits.false-raw) c.if-slot-slots.true
 
-pub find_in-requires : goal.find_in-requires
-find_in-requires c = let a = c.args in fits_block a.slots a.words.now (sym c.table_fits.ensures ∙ not-false _ c.if-not-table_fits.false-raw) a.slot c.if-slot-slots.false
+pub invariant_of-at : goal.invariant_of-at
+invariant_of-at c = let a = c.args in record { inside = fits_block a.slots a.words.now (sym c.table_fits.ensures ∙ not-false _ c.if-not-table_fits.false-raw) a.slot c.if-slot-slots.false }
 
 pub returns : goal.returns
 returns c = let a = c.args in c.find_in.ensures ∙ read_in a.slots a.words.now a.packed.now a.slot (sym c.table_fits.ensures ∙ not-false _ c.if-not-table_fits.false-raw) c.if-slot-slots.false

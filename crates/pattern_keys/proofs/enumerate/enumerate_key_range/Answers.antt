@@ -12,14 +12,15 @@ add_keys-requires c =
     let r = c.args.ranges.now in
     (omega arith, omega arith, zeros r.hi r.bins r.parts, omega (arith, in_range_length r.lo r.hi r.narrow, ap length (loops_is r.lo r.hi)))
 
-pub sort-requires : goal.sort-requires
-sort-requires c =
+pub invariant_of-sort : goal.invariant_of-sort
+invariant_of-sort c =
     let r = c.args.ranges.now in
     let f = c.add_keys.new.found in
-    let listed = listed_of r.centre r.lo r.hi (search rules) r.inside in (
-      loops_few r.centre r.lo r.hi r.bins r.narrow listed _ _ f.hashes f.dist f.count c.add_keys.ensures,
-      loops_near r.centre r.lo r.hi r.bins r.narrow listed _ _ f.hashes f.dist f.count c.add_keys.ensures,
-    )
+    let listed = listed_of r.centre r.lo r.hi (search rules) r.inside in
+    record {
+      few = loops_few r.centre r.lo r.hi r.bins r.narrow listed _ _ f.hashes f.dist f.count c.add_keys.ensures;
+      near = loops_near r.centre r.lo r.hi r.bins r.narrow listed _ _ f.hashes f.dist f.count c.add_keys.ensures;
+    }
 
 pub returns : goal.returns
 returns c =

@@ -6,10 +6,15 @@ use Rattle.search_cache.proofs.Loaded.{empty_pass, empty_four}
 use Rattle.pattern_search.proofs.Calling.{call_eight, call_zero, call_run, ready}
 use Rattle.pattern_search.proofs.call.go.Goals as goal
 
+pub invariant_of-fitting : goal.invariant_of-fitting
+invariant_of-fitting c =
+    let D = data_in c.args.frame.now c.args.table.now in
+    record { fits = seven_asked D.frame c.args.table.now.slots D.words D.stars c.requires }
+
 pub state_fits-requires : goal.state_fits-requires
 state_fits-requires c =
     let D = data_in c.args.frame.now c.args.table.now in
-    (seven_asked D.frame c.args.table.now.slots D.words D.stars c.requires, empty_pass _ _ c.empty-cache.ensures, empty_four _ _ c.empty-cache.ensures)
+    (empty_pass _ _ c.empty-cache.ensures, empty_four _ _ c.empty-cache.ensures)
 
 pub returns-then-not-state_fits : goal.returns-then-not-state_fits
 returns-then-not-state_fits c =
@@ -17,9 +22,7 @@ returns-then-not-state_fits c =
     call_eight D c.args.st c.args.allowance c.requires _ (c.state_fits.ensures.fits D.words D.packed D.stars) c.if-not-state_fits.true
 
 pub start_call-next-requires : goal.start_call-next-requires
-start_call-next-requires c =
-    let D = data_in c.args.frame.now c.args.table.now in
-    (seven_asked D.frame c.args.table.now.slots D.words D.stars c.requires, c.state_fits.ensures.caches.0)
+start_call-next-requires c = c.state_fits.ensures.caches.0
 
 pub returns-then-allowance-eq0 : goal.returns-then-allowance-eq0
 returns-then-allowance-eq0 c =

@@ -9,8 +9,8 @@ use Rattle.pattern_search.proofs.call.run.Given as goal
 
 abbrev pub invariant-loop-reply : goal.invariant-loop-reply
 invariant-loop-reply l =
-    let D = data_in l.frame l.table in
-    (continuing (feed D) l.frame.config.cap l.st l.a l.w ≡ continuing (feed D) l.frame.config.cap l.st l.allowance l.initial.w)
+    let D = data_in l.fitting.frame l.table in
+    (continuing (feed D) l.fitting.frame.config.cap l.st l.a l.w ≡ continuing (feed D) l.fitting.frame.config.cap l.st l.allowance l.initial.w)
     × Ready D l.w l.cache
     × (l.a ≤ l.allowance)
     × ValidBelow l.table.stars.now (known_count l.known)

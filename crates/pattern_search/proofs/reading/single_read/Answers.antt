@@ -7,27 +7,27 @@ use Rattle.pattern_search.proofs.reading.single_read.Goals as goal
 
 pub read_slot-requires : goal.read_slot-requires
 read_slot-requires c =
-    let D = data_in c.args.frame.now c.args.table.now in
+    let D = data_in c.args.fitting.now.frame c.args.table.now in
     read_slot_bounds D c.args.p _ c.args.loaded c.requires.0.asked c.requires.2 c.requires.3 c.requires.4 (here_of D c.args.cursor c.args.p _ c.requires.0 c.requires.1) c.requires.0.table
 
 pub returns-in-Err : goal.returns-in-Err
 returns-in-Err c =
-    let D = data_in c.args.frame.now c.args.table.now in
+    let D = data_in c.args.fitting.now.frame c.args.table.now in
     let m = means D c.args.p _ (sym c.in-Err.is ∙ (read_slot_same D c.args.p _ c.args.loaded c.requires.0.asked c.requires.2 c.requires.3 c.requires.4 (here_of D c.args.cursor c.args.p _ c.requires.0 c.requires.1) _ (ap (λ z. z.field) c.pass_at-field.ensures) _ c.read_slot.ensures)) in
     reply_refused D c.args.st c.args.allowance c.args.cursor c.args.p c.requires.1 c.requires.5 m.0 _ m.1
 
 pub step-on-requires : goal.step-on-requires
 step-on-requires c =
-    let D = data_in c.args.frame.now c.args.table.now in
+    let D = data_in c.args.fitting.now.frame c.args.table.now in
     let m = room_of D c.args.cursor c.args.p _ c.requires.0 c.requires.1 in
-    (c.requires.0.asked, at_read D c.args.p _ c.args.loaded c.requires.0.asked c.requires.2 c.requires.3 c.requires.4 (here_of D c.args.cursor c.args.p _ c.requires.0 c.requires.1) c.requires.0.table, m.0, m.1)
+    (at_read D c.args.p _ c.args.loaded c.requires.0.asked c.requires.2 c.requires.3 c.requires.4 (here_of D c.args.cursor c.args.p _ c.requires.0 c.requires.1) c.requires.0.table, m.0, m.1)
 
 pub overflow_sub-allowance : goal.overflow_sub-allowance
 overflow_sub-allowance c = omega (arith, c.requires.5)
 
 pub returns : goal.returns
 returns c =
-    let D = data_in c.args.frame.now c.args.table.now in
+    let D = data_in c.args.fitting.now.frame c.args.table.now in
     let m = means D c.args.p _ (sym c.in-Ok.is ∙ (read_slot_same D c.args.p _ c.args.loaded c.requires.0.asked c.requires.2 c.requires.3 c.requires.4 (here_of D c.args.cursor c.args.p _ c.requires.0 c.requires.1) _ (ap (λ z. z.field) c.pass_at-field.ensures) _ c.read_slot.ensures)) in
     let v = c.step-on.ensures.cursor _ _ _ (c.saw_entry-full.ensures ∙ entry_filled D c.args.p _ m) in
     let d = c.step-on.ensures.caches in

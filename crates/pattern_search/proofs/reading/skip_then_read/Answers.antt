@@ -11,18 +11,19 @@ use Rattle.pattern_search.proofs.reading.skip_then_read.Goals as goal
 
 pub load-loaded-requires : goal.load-loaded-requires
 load-loaded-requires c =
-    load_ready (data_in c.args.frame.now c.args.table.now) c.args.cursor c.args.p _ c.requires.0 c.requires.1
+    let l = load_ready (data_in c.args.fitting.now.frame c.args.known.now.table) c.args.cursor c.args.p _ c.requires.0 c.requires.1 in
+    (l.1, l.2, l.3, l.4)
 
 pub skip_reads-s-requires : goal.skip_reads-s-requires
 skip_reads-s-requires c =
-    let D = data_in c.args.frame.now c.args.table.now in
+    let D = data_in c.args.fitting.now.frame c.args.known.now.table in
     let l = c.load-loaded.ensures in
     let r = at_read D c.args.p _ c.load-loaded.result c.requires.0.asked l.0 l.1 l.2 (here_of D c.args.cursor c.args.p _ c.requires.0 c.requires.1) c.requires.0.table in
-    (r.key, r.few, r.probe, c.requires.0.table, c.requires.2)
+    (r.key, r.few, r.probe)
 
 pub after_skip-on-requires : goal.after_skip-on-requires
 after_skip-on-requires c =
-    let D = data_in c.args.frame.now c.args.table.now in
+    let D = data_in c.args.fitting.now.frame c.args.known.now.table in
     let l = c.load-loaded.ensures in
     let t = skip_reads_passes D c.args.cursor c.args.p _ _ _ c.requires.0 c.requires.1 l.0 l.1 l.2 c.args.allowance _ c.skip_reads-s.ensures in
     let m = room_of D c.args.cursor c.args.p _ c.requires.0 c.requires.1 in
@@ -30,15 +31,15 @@ after_skip-on-requires c =
 
 pub returns-then-s-eq0 : goal.returns-then-s-eq0
 returns-then-s-eq0 c =
-    let D = data_in c.args.frame.now c.args.table.now in
+    let D = data_in c.args.fitting.now.frame c.args.known.now.table in
     let l = c.load-loaded.ensures in
     let t = skip_reads_passes D c.args.cursor c.args.p _ _ _ c.requires.0 c.requires.1 l.0 l.1 l.2 c.args.allowance _ c.skip_reads-s.ensures in
     let v = c.after_skip-on.ensures in
-    reply_used D c.args.st _ _ _ c.state.ensures _ (ap (λ x. x.next) v ∙ t.at) c.if-s-eq0.true ∙ ap searched (ap (continuing (feed D) c.args.frame.now.config.cap c.args.st _) v ∙ t.same c.args.st)
+    reply_used D c.args.st _ _ _ c.state.ensures _ (ap (λ x. x.next) v ∙ t.at) c.if-s-eq0.true ∙ ap searched (ap (continuing (feed D) c.args.fitting.now.frame.config.cap c.args.st _) v ∙ t.same c.args.st)
 
 pub single_read-requires : goal.single_read-requires
 single_read-requires c =
-    let D = data_in c.args.frame.now c.args.table.now in
+    let D = data_in c.args.fitting.now.frame c.args.known.now.table in
     let l = c.load-loaded.ensures in
     let t = skip_reads_passes D c.args.cursor c.args.p _ _ _ c.requires.0 c.requires.1 l.0 l.1 l.2 c.args.allowance _ c.skip_reads-s.ensures in
     let v = c.after_skip-on.ensures in
@@ -47,8 +48,8 @@ single_read-requires c =
 
 pub returns : goal.returns
 returns c =
-    let D = data_in c.args.frame.now c.args.table.now in
+    let D = data_in c.args.fitting.now.frame c.args.known.now.table in
     let l = c.load-loaded.ensures in
     let t = skip_reads_passes D c.args.cursor c.args.p _ _ _ c.requires.0 c.requires.1 l.0 l.1 l.2 c.args.allowance _ c.skip_reads-s.ensures in
     let v = c.after_skip-on.ensures in
-    iterated_from D c.args.st c.args.allowance _ c.args.cursor _ c.single_read.new.cache c.single_read.result t.fewer (ap (continuing (feed D) c.args.frame.now.config.cap c.args.st _) v ∙ t.same c.args.st) c.single_read.ensures
+    iterated_from D c.args.st c.args.allowance _ c.args.cursor _ c.single_read.new.cache c.single_read.result t.fewer (ap (continuing (feed D) c.args.fitting.now.frame.config.cap c.args.st _) v ∙ t.same c.args.st) c.single_read.ensures

@@ -11,15 +11,15 @@ max_error-e-requires c = (fitting c.args.config c.requires.0).narrow.few_bins
 pub key_hashes-n-requires : goal.key_hashes-n-requires
 key_hashes-n-requires c =
     let t = tolerance_narrow c.args.config c.requires.0 in
-    (rw c.image_of-image.ensures c.requires.1, rw c.max_error-e.ensures t)
+    (rw c.image_from-image.ensures c.requires.1, rw c.max_error-e.ensures t)
 
 pub overflow_cast-result : goal.overflow_cast-result
 overflow_cast-result c =
-    let m = c.image_of-image.ensures in
+    let m = c.image_from-image.ensures in
     let k = (keys_count (image_from c.args.angles).ratios _ c.args.config.bins c.requires.1 (tolerance_narrow c.args.config c.requires.0)).1 in
     let h = rw (m, c.max_error-e.ensures) at c.key_hashes-n.ensures.count in
     record { fits = omega (arith, h, k) }
 
 pub returns-clause-keys : goal.returns-clause-keys
 returns-clause-keys c =
-    prepared _ _ _ _ _ _ c.image_of-image.ensures c.max_error-e.ensures c.key_hashes-n.ensures
+    prepared _ _ _ _ _ _ c.image_from-image.ensures c.max_error-e.ensures c.key_hashes-n.ensures

@@ -17,10 +17,10 @@ returns-in-Ended-clause-fits c = λ w e s. ended_by_counts _ _ _ _ _ c.in-Ended.
 
 pub returns-then-position_exists-clause-fits : goal.returns-then-position_exists-clause-fits
 returns-then-position_exists-clause-fits c =
-    let F = frame_in c.args.frame.now in
+    let F = frame_in c.args.fitting.now.frame in
     λ w e s. at_by_counts (feed (data_of F c.args.slots w e s)) c.args.st.phase c.args.st.patterns c.args.st.reads _ c.in-At.is _ (c.position_exists.ensures.fits w e s) c.if-position_exists.true _ c.within_counts-then-position_exists.ensures
 
 pub returns-else-position_exists-clause-fits : goal.returns-else-position_exists-clause-fits
 returns-else-position_exists-clause-fits c =
-    let F = frame_in c.args.frame.now in
+    let F = frame_in c.args.fitting.now.frame in
     λ w e s. c.if-position_exists.false ∙ at_not (feed (data_of F c.args.slots w e s)) c.args.st.phase c.args.st.patterns c.args.st.reads _ c.in-At.is _ (c.position_exists.ensures.fits w e s) c.if-position_exists.false

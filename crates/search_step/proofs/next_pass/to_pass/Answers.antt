@@ -8,16 +8,16 @@ use Rattle.search_step.proofs.CacheAfter.{kept_same, kept_loaded}
 use Rattle.search_step.proofs.next_pass.to_pass.Goals as goal
 
 pub overflow_cast-n : goal.overflow_cast-n
-overflow_cast-n c = omega (arith, (passes_fitting c.args.frame.now.passes.now c.requires.0.five).few)
+overflow_cast-n c = omega (arith, (passes_fitting c.args.fitting.now.frame.passes.now c.args.fitting.now.fits.five).few)
 
 pub loop-i-init : goal.loop-i-init
-loop-i-init c = (c.requires.2, refl, λ w p x. refl, kept_same _ _ c.requires.1)
+loop-i-init c = (c.requires.1, refl, λ w p x. refl, kept_same _ _ c.requires.0)
 
 pub returns-then-reached : goal.returns-then-reached
 returns-then-reached c = record { next = λ w p x. sym (passes_timeout _ _ w p x _ _ _ _ c.loop-i-test.true _ c.reached.ensures c.if-reached.true) ∙ c.loop-i.invariant.2 w p x; caches = c.loop-i.invariant.3 }
 
 pub rebuild_pass-kept-requires : goal.rebuild_pass-kept-requires
-rebuild_pass-kept-requires c = (c.requires.0, c.loop-i-test.true)
+rebuild_pass-kept-requires c = c.loop-i-test.true
 
 pub start_pass-requires : goal.start_pass-requires
 start_pass-requires c = omega (arith, c.rebuild_pass-kept.ensures.count, kept_64 _ _ _ c.rebuild_pass-kept.ensures.loaded)

@@ -12,7 +12,7 @@ use Rattle.search_step.proofs.next_pass.to_pass.Given as goal
 
 abbrev pub invariant-loop-i : goal.invariant-loop-i
 invariant-loop-i l =
-    (l.i ≤ length l.frame.passes.now / 3)
-    × (l.n ≡ length l.frame.passes.now / 3)
-    × ((w p : List ℕ) (x : List Float) → to_pass (feed (data_of (frame_in l.frame) l.slots w p x)) l.frame.config.cap (length l.frame.passes.now / 3 - l.i) l.i l.s l.tried ≡ to_pass (feed (data_of (frame_in l.frame) l.slots w p x)) l.frame.config.cap (length l.frame.passes.now / 3 - l.from) l.from l.initial.s l.tried)
-    × CacheAfter (frame_in l.frame) l.initial.cache l.cache
+    (l.i ≤ length l.fitting.frame.passes.now / 3)
+    × (l.n ≡ length l.fitting.frame.passes.now / 3)
+    × ((w p : List ℕ) (x : List Float) → to_pass (feed (data_of (frame_in l.fitting.frame) l.slots w p x)) l.fitting.frame.config.cap (length l.fitting.frame.passes.now / 3 - l.i) l.i l.s l.tried ≡ to_pass (feed (data_of (frame_in l.fitting.frame) l.slots w p x)) l.fitting.frame.config.cap (length l.fitting.frame.passes.now / 3 - l.from) l.from l.initial.s l.tried)
+    × CacheAfter (frame_in l.fitting.frame) l.initial.cache l.cache

@@ -7,6 +7,6 @@ use Rattle.search_step.proofs.step.step.Goals as goal
 pub returns : goal.returns
 returns c =
     let r = c.after-next.ensures in record {
-      cursor = λ w e s f. stepped (feed (data_of (frame_in c.args.frame.now) c.args.slots w e s)) c.args.frame.now.config.cap c.args.cursor c.args.p _ c.count-n.ensures _ (r.next w e s f);
+      cursor = λ w e s f. stepped (feed (data_of (frame_in c.args.fitting.now.frame) c.args.slots w e s)) c.args.fitting.now.frame.config.cap c.args.cursor c.args.p _ c.count-n.ensures _ (r.next w e s f);
       caches = r.caches;
     }

@@ -6,6 +6,6 @@ pub returns-then-x : goal.returns-then-x
 unfolding cosine_fits of_bits neg
 returns-then-x c = simp c.if-x.true
 
-pub returns : goal.returns
+pub returns-else-x : goal.returns-else-x
 unfolding cosine_fits of_bits neg
-returns c = simp c.if-x.false
+returns-else-x c = simp c.if-x.false

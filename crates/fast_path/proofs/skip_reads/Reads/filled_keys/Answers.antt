@@ -8,8 +8,8 @@ use Rattle.fast_path.proofs.skip_reads.Reads.filled_keys.Goals as goal
 pub loop-key-init : goal.loop-key-init
 loop-key-init c = record { room = c.told-found; few = omega arith; filled = none_filled c.args.self.now c.args.from }
 
-pub is_filled-requires : goal.is_filled-requires
-is_filled-requires c = let T = c.args.self.now.known.table in fits_block T.slots T.words.now c.args.self.now.known.whole _ c.home-home.ensures.1
+pub invariant_of-slot : goal.invariant_of-slot
+invariant_of-slot c = let T = c.args.self.now.known.table in record { inside = fits_block T.slots T.words.now c.args.self.now.known.whole _ c.home-home.ensures.1 }
 
 pub loop-key-preserved : goal.loop-key-preserved
 loop-key-preserved c =

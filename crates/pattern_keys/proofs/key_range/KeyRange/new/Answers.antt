@@ -6,12 +6,12 @@ use Rattle.pattern_keys.proofs.key_range.KeyRange.new.Goals as goal
 pub low-requires : goal.low-requires
 low-requires c =
     let i = c.loop-i.i in
-    (ratio_at c.args.r i c.requires.0 (omega arith), c.requires.1, rw c.compute_pattern_key-centre.ensures (image_at c.args.r c.args.bins i (omega arith)))
+    (ratio_at c.args.r i c.requires.0 (omega arith), rw c.compute_pattern_key-centre.ensures (image_at c.args.r c.args.bins i (omega arith)))
 
 pub high-requires : goal.high-requires
 high-requires c =
     let i = c.loop-i.i in
-    (ratio_at c.args.r i c.requires.0 (omega arith), c.requires.1, rw c.compute_pattern_key-centre.ensures (image_at c.args.r c.args.bins i (omega arith)))
+    (ratio_at c.args.r i c.requires.0 (omega arith), rw c.compute_pattern_key-centre.ensures (image_at c.args.r c.args.bins i (omega arith)))
 
 pub loop-i-preserved : goal.loop-i-preserved
 loop-i-preserved c =

@@ -1,6 +1,0 @@
-use Rattle.pattern_catalog.specs.Blocks.{bit_at}
-use Rattle.pattern_catalog.proofs.blocks.is_filled.Goals as goal
-
-pub returns : goal.returns
-unfolding bit_at
-returns c = c.bit.ensures

@@ -1,7 +1,0 @@
-use Prim.Native.Nat.{◌*◌, ◌-◌, ◌≤◌}
-use mathlib.Core.Path.{◌≡◌}
-use Rattle.pattern_catalog.specs.Blocks.{ones_in}
-use Rattle.pattern_catalog.proofs.count_ones.ones_in_whole_words.Given as goal
-
-abbrev pub invariant-loop-k : goal.invariant-loop-k
-invariant-loop-k l = (l.sum ≤ l.k * 64) × (l.sum ≡ ones_in l.words (l.block * 448) ((l.k - (l.k - l.q)) * 64))

@@ -1,6 +1,0 @@
-use Rattle.search_cache.specs.CombinationKeys.{image_from}
-use Rattle.search_cache.proofs.combination.image_of.Goals as goal
-
-pub returns : goal.returns
-unfolding image_from
-returns c = rw (c.compute_edge_ratios-ratios.ensures, c.sort-edges.ensures)
