@@ -8,6 +8,7 @@ use pattern_search::{Answer, Searched};
 use undivided_run::state::{Phase, Position, State};
 
 // Returns a state that names no read, fresh or ended. The numbers of the read are 0.
+// Kept: numbers, since C has no such enum.
 fn plain_numbers(phase: u32, status: u32, patterns: u64, reads: u64) -> StarState
     ensures { result ≡ plain_numbers phase status patterns reads }
 {
@@ -94,6 +95,7 @@ fn without_candidate(answer: u32, number: u32, state: StarState) -> StarAnswer
 
 // Returns a call's answer as plain numbers. `raw` is the state received: a refused call gives it back as it came, and so does a call with
 // allowance 0 that answers "allowance used".
+// Kept: not From, since it is made of three values.
 pub fn answer_to_c(raw: StarState, allowance: u64, r: Searched) -> StarAnswer
     ensures { result ≡ answer_of raw allowance r }
 {

@@ -49,12 +49,14 @@ impl From<Result<u64, Question>> for StarSwept {
     }
 }
 
-// Returns a direction as a vector for C.
-fn vector_numbers(v: [f32; 3]) -> StarVector
-    ensures { result ≡ vector_numbers v }
-{
-    let [x, y, z] = v;
-    StarVector { x, y, z }
+impl From<[f32; 3]> for StarVector {
+    ghost from_gives = { λ v n. n ≡ vector_numbers v };
+
+    // Returns a direction as a vector for C.
+    fn from(v: [f32; 3]) -> StarVector {
+        let [x, y, z] = v;
+        StarVector { x, y, z }
+    }
 }
 
 // Returns four directions as vectors for C.
@@ -63,10 +65,10 @@ fn four_vectors(v: [[f32; 3]; 4]) -> [StarVector; 4]
 {
     let [a, b, c, d] = v;
     [
-        vector_numbers(a),
-        vector_numbers(b),
-        vector_numbers(c),
-        vector_numbers(d),
+        StarVector::from(a),
+        StarVector::from(b),
+        StarVector::from(c),
+        StarVector::from(d),
     ]
 }
 

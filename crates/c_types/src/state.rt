@@ -33,6 +33,7 @@ fn unknown_state() -> State
 }
 
 // Returns an ended state by the number of its status.
+// Kept: a number, since C has no such enum.
 fn ended_of(status: u32, patterns: u64, reads: u64) -> State
     ensures { result ≡ ended_of status patterns reads }
 {

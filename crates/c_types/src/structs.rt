@@ -6,6 +6,7 @@
 #[repr(C)]
 #[derive(Clone, Copy)]
 pub struct StarState {
+    // Kept: numbers, since C has no such enum.
     pub phase: u32,
     pub status: u32,
     pub pass: u32,

@@ -100,7 +100,7 @@ impl OfSum {
 }
 
 // Returns the first combination of n kept spots. There is none where n is below 4.
-// Kept: that at most 64 are kept is a clause, here and in search_cache, since the number comes alone.
+// Kept: that at most 64 are kept is a clause, here, in search_cache, search_step and thinning, since the number comes alone.
 pub fn first_combination(n: u32) -> Option<Combination>
     requires { n ≤ 64 }
     ensures { result ≡ first_combination n }

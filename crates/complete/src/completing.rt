@@ -17,6 +17,7 @@ pub struct Completed {
 
 // Completes a candidate: asks questions 1, 2, 3, 5, 7, 14, then 9 of its stars, and the first no refuses. `scale` is the host's pixel scale for
 // the measured field of view; it is used only where the rebuild mark is set.
+// Kept: slices, since it takes no settings, which a Frame has, and stands below the crate of Frame.
 pub fn complete(
     centroids: &[f32],
     order: &[u32],

@@ -158,7 +158,7 @@ impl Reads<'_, '_> {
 
 // Goes over the reads of a combination from a key and probe on, key after key, as long as they give no candidate and the allowance lasts.
 // The combination's last read is never made here: the single read makes it and works out what comes after it.
-// Kept: the hashes apart, since the cache that holds them is in a crate above this one.
+// Kept: the hashes apart, since this crate doesn't stand on search_cache, of whose Cache they are the one array that is read here.
 pub fn skip_reads(
     key: u32,
     probe: u32,

@@ -35,6 +35,7 @@ fn allowed_stars(n: usize, made: u64) -> usize
 }
 
 // Asks question 9 of the stars after the known ones, each once, as far as the reads that the call has made allow. Returns what is known then.
+// Kept: that the stars are within question 7's limit is a clause, since a Table is lent before it is asked.
 pub fn validate_stars(stars: &[f32], known: ValidStars, made: u64) -> ValidStars
     requires { length stars.now ≤ 3145728 }
     ensures { result ≡ validated_stars stars.now known made }

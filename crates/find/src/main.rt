@@ -13,7 +13,13 @@ use std::fs::File;
 use undivided_run::state::State;
 
 // Searches a bundled frame and reports the search.
-fn report_bundled(rt: &impl Print, name: &str, centroids: &[f32], order: &[u32]) {
+fn report_bundled(
+    rt: &impl Print,
+    table: &Table<'_>,
+    name: &str,
+    centroids: &[f32],
+    order: &[u32],
+) {
     let _ = print!(rt; "{name}: ");
     let frame = Frame {
         centroids,
@@ -21,27 +27,24 @@ fn report_bundled(rt: &impl Print, name: &str, centroids: &[f32], order: &[u32])
         config: bundled::CONFIG,
         passes: &bundled::PASSES,
     };
+    let data = Data {
+        frame,
+        table: *table,
+    };
+    data.report_search(rt, State::fresh());
+}
+
+// Reports the bundled table and the searches of the two bundled frames.
+fn report_frames(rt: &impl Print) {
     let table = Table {
         slots: bundled::SLOTS,
         words: &bundled::WORDS,
         packed: &bundled::PACKED,
         stars: &bundled::STARS,
     };
-    let data = Data { frame, table };
-    data.report_search(rt, State::fresh());
-}
-
-// Reports the bundled table and the searches of the two bundled frames.
-fn report_frames(rt: &impl Print) {
-    table_line(
-        rt,
-        bundled::SLOTS,
-        &bundled::WORDS,
-        &bundled::PACKED,
-        &bundled::STARS,
-    );
-    report_bundled(rt, "frame A", &bundled::SPOTS_A, &bundled::ORDER_A);
-    report_bundled(rt, "frame B", &bundled::SPOTS_B, &bundled::ORDER_B);
+    table_line(rt, &table);
+    report_bundled(rt, &table, "frame A", &bundled::SPOTS_A, &bundled::ORDER_A);
+    report_bundled(rt, &table, "frame B", &bundled::SPOTS_B, &bundled::ORDER_B);
 }
 
 // Writes that the file can't be opened.

@@ -35,7 +35,7 @@ fn report(rt: &impl Print, n: u64, request: Option<Request>, lent: &Lent) -> Sta
         }
         Some(Request::Open) => {
             let table = data.table;
-            table_line(rt, table.slots, table.words, table.packed, table.stars);
+            table_line(rt, &table);
             state
         }
         _ => state,

@@ -84,6 +84,7 @@ impl Iterator for SweepOffsets {
 }
 
 // Returns the first `most` offsets of a sweep. The first one is the step.
+// Kept: three numbers, here and below; they are a struct once the sweep has begun, which `SweepOffsets` is.
 fn offsets_of(estimate: f32, reach: f32, step: f32, most: usize) -> SweepOffsets
     ensures { offsets_left result ≡ offsets_from most estimate reach step step }
 {

@@ -69,6 +69,7 @@ fn valid_to(packed: &[u8], stars: &[f32], n: u64) -> bool
 }
 
 // The opening check of a table: refuses it with the first question that is answered no.
+// Kept: slices apart, since Table is in a crate above; so it is with the slot read.
 pub fn open_check(slots: u64, words: &[u64], packed: &[u8], stars: &[f32]) -> Result<(), Question>
     ensures { refused_by result ≡ opening slots words.now packed.now stars.now }
 {

@@ -27,6 +27,7 @@ fn above(h: u64, bins: u32, part: u32) -> u64
 
 // Returns the hash of a key: the sum of part i times bins^i, which is below 2^62.
 // Kept: written out, each call's bound follows from the call before it; in a fold each turn would need a bound by its number.
+// Kept: that no part is above bins is a clause, since a key is five plain numbers that loops work out part by part.
 pub fn compute_pattern_key_hash(k: [u32; 5], bins: u32) -> u64
     requires { Parts k bins }
     ensures { result ≡ hash_of k bins }

@@ -75,6 +75,7 @@ fn around(c: u64) -> [u64; 4]
 
 // Unpacks `count` codes from `word` and adds the sums of those that are valid to the m values of `out`. Returns the new number of values.
 // The value after these may be overwritten.
+// Kept: fills an array and returns a count, since there is no heap.
 fn add(
     word: u64,
     count: u64,

@@ -9,6 +9,7 @@ use crate::nested_loops::Measured;
 
 // Writes to `out` the hashes of the keys in the ranges, by squared distance to the image key, then lexicographically. Returns their count.
 // What `out` holds after them is left open.
+// Kept: fills an array and returns a count, since there is no heap.
 pub fn enumerate_key_range(ranges: &KeyRange, out: &mut [u64; 1024]) -> usize
     ensures { Hashed out.new result (keys_of ranges.now.centre ranges.now.lo ranges.now.hi) ranges.now.bins }
 {

@@ -9,6 +9,7 @@ ghost use Rattle.pattern_keys.specs.EnumerateSteps.{Hashed};
 use crate::key_range::KeyRange;
 
 // Writes to `out` the hashes of the keys of five ratios, in the keys' order, and returns their count. What `out` holds after them is left open.
+// Kept: fills an array and returns a count, since there is no heap.
 pub fn key_hashes(r: [f32; 5], e: f32, bins: u32, out: &mut [u64; 1024]) -> usize
     requires { Ratios r × NarrowTolerance e bins }
     ensures { Hashed out.new result (keys_for r e bins) bins }

@@ -30,6 +30,7 @@ fn squared_distance(c: [u32; 5], k: [u32; 5], bins: u32) -> u64
 }
 
 // The hash and the squared distance of each key so far, with room for the most that there can be.
+// Kept: two arrays and a count, since there is no heap.
 #[derive(Drop)]
 pub struct Measured {
     pub hashes: [u64; 1024],

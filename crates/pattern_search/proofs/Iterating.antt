@@ -159,7 +159,8 @@ module _ (D : Data) (r : Position) (h : Cache) (x : Loaded) (a : FrameFits D.fra
   at_read t =
       record {
         loaded = p;
-        with = u;
+        kept = u.kept;
+        keys = u.keys;
         small = omega (arith, u.kept, kept_64 D.frame r.pass h p);
         rising = rw u.kept rises;
         few = keys_few;

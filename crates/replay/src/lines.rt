@@ -9,6 +9,7 @@ use std::fmt;
 use undivided_run::state::Status;
 
 // Numbers, with a space before each.
+// Kept: search_report has the same as `Row`, but below the two are only crates that are burned in.
 #[derive(Clone, Copy)]
 struct Numbers([u32; 4]);
 
@@ -82,6 +83,7 @@ impl fmt::Display for Shown {
 }
 
 // Returns the name of a status.
+// Kept: limits has these names too; see there.
 fn name_of(status: Status) -> &'static str {
     match status {
         Status::TooFew => "toofew",

@@ -36,10 +36,10 @@ abbrev pub PassIfAny : Option KeptPass → Frame → List Place → List Float �
 PassIfAny (Some p) F places geometry = (p.number < length F.passes / 3) × HoldsPass F p.number p.kept places geometry
 PassIfAny None F places geometry = Unit {0}
 
--- Where a cache says that it is loaded for a combination, it is loaded for a pass, and the array holds the keys of that combination of that pass.
+-- Where a cache says that it is loaded for a combination and for a pass, the array holds the keys of that combination of that pass.
 abbrev pub CombinationIfAny : Option CombinationKeys → Option KeptPass → Frame → List ℕ → Type 0
 CombinationIfAny (Some k) (Some p) F hashes = HoldsCombination F p.number k.four k.keys k.image hashes
-CombinationIfAny (Some k) None F hashes = ⊥
+CombinationIfAny (Some k) None F hashes = Unit {0}
 CombinationIfAny None p F hashes = Unit {0}
 
 -- The arrays of a pass hold what the cache says. Their types say how long they are: 64 places, and 2208 = 64·3 + 64·63/2 numbers for the

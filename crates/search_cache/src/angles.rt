@@ -71,7 +71,7 @@ impl Geometry {
     }
 
     // Returns the directions at the four positions of a combination.
-    // Kept: four calls by name, since a map needs a closure with a clause; and that q rises a clause, since a Combination of a saved state need not.
+    // Kept: four calls by name, as a map has a clause in its closure and a longer proof; that q rises is a clause, as one of a saved state need not.
     fn four_at(&self, q: Combination) -> [[f32; 3]; 4]
         requires { Rising 64 q }
         ensures { result ≡ four_at self.now.numbers q }

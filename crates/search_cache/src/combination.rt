@@ -27,7 +27,7 @@ fn image_from(angles: [f32; 6]) -> Image
 }
 
 // What the six angles of a combination show, and the hashes of their keys in order, so many of them.
-// Kept: lent the one array of the cache that it writes, since the cache still says that it has another combination.
+// Kept: lent the one array that it writes; as a method of Cache its promise would also have to say that the other arrays stay as they are.
 fn prepare(
     config: SearchConfig,
     four: Combination,

@@ -32,7 +32,7 @@ pub struct CombinationKeys {
 pub struct Cache {
     // The pass that `places` and `geometry` are loaded for, if any.
     pub pass: Option<KeptPass>,
-    // The places that the pass keeps, at most 64.
+    // The places that the pass keeps, at most 64. Kept: an array, and its count in `pass`, since there is no heap; so are the hashes.
     pub places: [Place; 64],
     // Their directions, and the angle of each two of them.
     pub geometry: Geometry,

@@ -2,6 +2,7 @@
 use crate::words::{Count, Counts, Ending, Field, Row};
 use candidates::entry_tests::Candidate;
 use question::Question;
+use search_feed::lent::Table;
 use undivided_run::state::{Position, State, Status};
 
 // Writes where a candidate was found: the number and positions of its combination, its key and how many there are, its probe and its slot.
@@ -54,12 +55,17 @@ pub fn refusal_line(rt: &impl Print, question: Question) {
 }
 
 // Writes how many slots, patterns and stars the table has, and what the opening check answers.
-pub fn table_line(rt: &impl Print, slots: u64, words: &[u64], packed: &[u8], stars: &[f32]) {
-    let slot_count = Count(slots, "slot", "slots");
-    let patterns = Count(packed.len() as u64 / 22, "pattern", "patterns");
-    let star_count = Count(stars.len() as u64 / 3, "star", "stars");
+pub fn table_line(rt: &impl Print, table: &Table<'_>) {
+    let slot_count = Count(table.slots, "slot", "slots");
+    let patterns = Count(table.packed.len() as u64 / 22, "pattern", "patterns");
+    let star_count = Count(table.stars.len() as u64 / 3, "star", "stars");
     let _ = print!(rt; "table: {slot_count}, {patterns}, {star_count}; ");
-    match opening_check::open_check::open_check(slots, words, packed, stars) {
+    match opening_check::open_check::open_check(
+        table.slots,
+        table.words,
+        table.packed,
+        table.stars,
+    ) {
         Ok(()) => {
             let _ = println!(rt; "opening check passed");
         }

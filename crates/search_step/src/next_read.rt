@@ -14,6 +14,7 @@ use search_feed::lent::FittingFrame;
 use undivided_run::state::{Next, Position, Status};
 
 // The read after the last of a combination: the next combination of the pass, or the passes after.
+// Kept: `LoadedRead` is a clause, here and below, since it is said of frame, cache and read together; these travel apart where one changes.
 fn after_combination(
     fitting: &FittingFrame<'_>,
     slots: u64,

@@ -23,6 +23,7 @@ impl Pass {
 }
 
 // Returns pass number i of the slice, counted from 0.
+// Kept: that the pass exists is a clause, here and where a pass is loaded, as for an index.
 pub fn pass_at(passes: &[f32], i: u32) -> Pass
     requires { i < length passes.now / 3 }
     ensures { result ≡ pass_at passes.now i }

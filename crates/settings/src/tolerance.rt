@@ -32,7 +32,7 @@ fn wanted(own: Tolerance, table: f32) -> f32
 
 // Returns the tolerance e: the larger of the user's and the table's, and at most the larger of 8 / bins and the table's. The source writes
 // 16 / (2 · bins) for 8 / bins, which is the same f32.
-// Kept: that bins are at most 4,096 is a clause, here and in two other functions, since the number comes alone.
+// Kept: that bins are at most 4,096 is a clause, here and in four other functions: the number comes alone or in settings not yet asked about.
 pub fn max_error(own: Tolerance, table: f32, bins: u32) -> f32
     requires { bins ≤ 4096 }
     ensures { result ≡ tolerance_of own table bins }

@@ -42,6 +42,7 @@ pub extern "C" fn star_open(slots: u64, words: &[u64], packed: &[u8], stars: &[f
 }
 
 // One search call: takes the search state and an allowance of reads, and returns the answer and the state after it.
+// Kept: C's parameters.
 #[unsafe(no_mangle)]
 pub extern "C" fn star_search(
     centroids: &[f32],

@@ -4,7 +4,7 @@ use Rattle.std.proofs.Common.{refl, arith}
 use Rattle.std.proofs.lemmas.Bool.Decides.{nat_tests}
 use Rattle.stream.specs.Kind.{number_of, kind_of}
 use Rattle.stream.specs.Records.{record_of, request_of}
-use Rattle.stream.specs.Words.{Words, words_of, room_for}
+use Rattle.stream.specs.Words.{Words, words_of, size_of, room_for}
 use Rattle.stream.specs.declared.kind.Kind.{Kind}
 use Rattle.stream.specs.declared.kind.Kind.TheVariants.{Table, Frame, Settings, Fresh, State, Call, Run, Open, Slot, Sweep, Complete, Unknown}
 use Rattle.stream.specs.declared.records.Inputs.{Inputs}
@@ -34,6 +34,15 @@ number_again n low high = grind (arith, nat_tests)
 pub outside_unknown : (n : ℕ) → (n < 1) ⊎ (11 < n) → kind_of n ≡ Unknown
 unfolding kind_of
 outside_unknown n h = grind (arith, nat_tests)
+
+-- A number that is no kind's has the payload of 0, which is no kind's either.
+pub unknown_words : (n : ℕ) → kind_of n ≡ Unknown → words_of n ≡ words_of 0
+unfolding kind_of words_of
+unknown_words n h = grind (arith, nat_tests)
+
+pub unknown_size : (n : ℕ) (w : Words) → kind_of n ≡ Unknown → size_of n w ≡ size_of 0 w
+unfolding kind_of words_of size_of
+unknown_size n w h = grind (arith, nat_tests)
 
 -- The arrays have no room for a payload of a number that is no kind's.
 pub unknown_room : (n : ℕ) (w : Words) → kind_of n ≡ Unknown → room_for n w ≡ false

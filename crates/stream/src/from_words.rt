@@ -79,6 +79,7 @@ fn position_of(w: Words) -> Position
 }
 
 // Returns the ended state of a payload of kind 5 by the number of its status, or none where the number is unknown.
+// Kept: a number, as the stored lists have it.
 fn ended_of(status: u32, w: Words) -> Option<State>
     ensures { result ≡ ended_of status w }
 {
@@ -90,6 +91,7 @@ fn ended_of(status: u32, w: Words) -> Option<State>
 
 // Returns the state of a payload of kind 5 by the number of its phase, or none where that number or that of its status is unknown.
 #[tactic(auto, unfolding(crate::specs::Records::state_of))]
+// Kept: numbers, as the stored lists have them; an enum of the phases would be made for this one match.
 pub fn state_of(phase: u32, w: Words) -> Option<State>
     ensures { result ≡ state_of phase w }
 {

@@ -11,6 +11,7 @@ use search_feed::lent::{Frame, Table};
 
 // What a stream is read into: the inputs that its records have set so far, and the arrays of a table (block words, packed section and star
 // slice) and of a frame (centroids, brightness list and passes), with the room that the format allows.
+// Kept: arrays, and how much of each is in use in `inputs`, since the programs keep to the rule of no heap.
 #[derive(Drop)]
 pub struct Lent {
     pub inputs: Inputs,

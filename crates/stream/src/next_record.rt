@@ -15,17 +15,17 @@ use std::io::Read;
 impl Lent {
     // Reads the three arrays of a table whose payload begins with the words w; the bytes are padded to a multiple of 4.
     fn fill_table<R: Read>(&mut self, input: &mut R, w: Words) -> Result<(), Broken> {
-        fill(input, &mut self.words, w[1])?;
-        fill_bytes(input, &mut self.packed, w[2])?;
+        fill(input, &mut self.words, w[1] as usize)?;
+        fill_bytes(input, &mut self.packed, w[2] as usize)?;
         pass_over(input, padding(w[2]))?;
-        fill(input, &mut self.stars, w[3])
+        fill(input, &mut self.stars, w[3] as usize)
     }
 
     // Reads the three arrays of a frame whose payload begins with the words w.
     fn fill_frame<R: Read>(&mut self, input: &mut R, w: Words) -> Result<(), Broken> {
-        fill(input, &mut self.centroids, w[0])?;
-        fill(input, &mut self.order, w[1])?;
-        fill(input, &mut self.passes, w[2])
+        fill(input, &mut self.centroids, w[0] as usize)?;
+        fill(input, &mut self.order, w[1] as usize)?;
+        fill(input, &mut self.passes, w[2] as usize)
     }
 
     // Reads the arrays of a payload that begins with the words w, where its kind has any.

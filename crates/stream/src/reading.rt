@@ -43,8 +43,8 @@ pub fn next_head<R: Read>(input: &mut R) -> Result<Option<(u32, u32)>, Broken> {
 }
 
 // Reads the next n numbers to the start of a slice. It fails where the slice has no room for them.
-pub fn fill<T: Number, R: Read>(input: &mut R, out: &mut [T], n: u32) -> Result<(), Broken> {
-    for x in out.get_mut(..n as usize).ok_or(Broken)? {
+pub fn fill<T: Number, R: Read>(input: &mut R, out: &mut [T], n: usize) -> Result<(), Broken> {
+    for x in out.get_mut(..n).ok_or(Broken)? {
         *x = T::read(input)?;
     }
     Ok(())
@@ -52,13 +52,13 @@ pub fn fill<T: Number, R: Read>(input: &mut R, out: &mut [T], n: u32) -> Result<
 
 // Reads the next n bytes to the start of a slice. It fails where the slice has no room for them.
 // Kept: `fill`, which would read byte after byte, makes replay take three times as long (0.43 seconds for 0.14).
-pub fn fill_bytes<R: Read>(input: &mut R, out: &mut [u8], n: u32) -> Result<(), Broken> {
-    input.read_exact(out.get_mut(..n as usize).ok_or(Broken)?)?;
+pub fn fill_bytes<R: Read>(input: &mut R, out: &mut [u8], n: usize) -> Result<(), Broken> {
+    input.read_exact(out.get_mut(..n).ok_or(Broken)?)?;
     Ok(())
 }
 
 // Reads the next n words; the others of the 13 are 0. It fails where more than 13 are asked for.
-pub fn next_words<R: Read>(input: &mut R, n: u32) -> Result<Words, Broken> {
+pub fn next_words<R: Read>(input: &mut R, n: usize) -> Result<Words, Broken> {
     let mut words = [0; 13];
     fill(input, &mut words, n)?;
     Ok(words)

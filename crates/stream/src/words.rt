@@ -46,7 +46,7 @@ fn three_fit(a: u32, b: u32, c: u32, x: u32, y: u32, z: u32) -> bool
 impl Kind {
     // Returns how many words a payload has before its arrays; for an unknown kind 14, more than any kind has.
     #[tactic(auto, unfolding(crate::specs::Words::words_of))]
-    pub fn payload_words(self) -> u32
+    pub fn payload_words(self) -> usize
         ensures { (result ≡ words_of (number_of self)) × (result ≤ 14) }
     {
         match self {
@@ -69,7 +69,7 @@ impl Kind {
         match self {
             Kind::Table => table_size(w[1], w[2], w[3]),
             Kind::Frame => frame_size(w[0], w[1], w[2]),
-            _ => u64::from(self.payload_words()) * 4,
+            _ => self.payload_words() as u64 * 4,
         }
     }
 

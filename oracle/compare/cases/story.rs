@@ -177,26 +177,24 @@ const HEAD: &str = "\
 // sky, frame A of its stars, and frame B with glint.
 use search_feed::SearchConfig;
 use settings::tolerance::Tolerance;
-use undivided_run::state::Cap;
 
 ";
 
 /// The settings as the program's source has them.
 fn settings(s: &Settings) -> String {
-    let head = "// The settings of both frames. No option is given.\npub fn config() -> SearchConfig {\n";
-    let absent = ["matching = Tolerance", "fov = Tolerance", "cap = Cap"].map(|option| format!("    let {option}::Absent;\n")).concat();
+    let head = "// The settings of both frames. No option is given.\npub const CONFIG: SearchConfig = SearchConfig {\n";
     let fields = [
         format!("bins: {}", s.bins),
         format!("checking: {}", s.checking_stars),
         format!("error: {}", literal(&s.table_error)),
         format!("radius: {}", literal(&s.match_radius)),
-        String::from("matching"),
-        String::from("fov"),
-        String::from("cap"),
+        String::from("matching: Tolerance::Absent"),
+        String::from("fov: Tolerance::Absent"),
+        String::from("cap: None"),
         format!("patterns: {}", s.pattern_count),
     ];
-    let fields = fields.map(|field| format!("        {field},\n")).concat();
-    format!("{head}{absent}    SearchConfig {{\n{fields}    }}\n}}\n")
+    let fields = fields.map(|field| format!("    {field},\n")).concat();
+    format!("{head}{fields}}};\n")
 }
 
 /// The story: two frames in one table, with what the oracle made of them.

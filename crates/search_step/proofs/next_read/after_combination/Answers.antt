@@ -14,7 +14,7 @@ pub to_pass-requires : goal.to_pass-requires
 to_pass-requires c = (loaded_pass _ _ _ c.requires.loaded, next_pass_inside _ _ _ c.requires.loaded)
 
 pub returns-in-Some : goal.returns-in-Some
-returns-in-Some c = record { next = λ w e x. c.to_combination.ensures ∙ sym (four_follows _ _ w e x _ _ _ _ _ c.requires.with.kept _ c.next.ensures _ c.in-Some.is); caches = kept_same _ _ (loaded_pass _ _ _ c.requires.loaded) }
+returns-in-Some c = record { next = λ w e x. c.to_combination.ensures ∙ sym (four_follows _ _ w e x _ _ _ _ _ c.requires.kept _ c.next.ensures _ c.in-Some.is); caches = kept_same _ _ (loaded_pass _ _ _ c.requires.loaded) }
 
 pub returns-in-None : goal.returns-in-None
-returns-in-None c = record { next = λ w e x. c.to_pass.ensures.next w e x ∙ sym (four_ends _ _ w e x _ _ _ _ _ c.requires.with.kept _ c.next.ensures c.in-None.is); caches = c.to_pass.ensures.caches }
+returns-in-None c = record { next = λ w e x. c.to_pass.ensures.next w e x ∙ sym (four_ends _ _ w e x _ _ _ _ _ c.requires.kept _ c.next.ensures c.in-None.is); caches = c.to_pass.ensures.caches }
