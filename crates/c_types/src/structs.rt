@@ -1,4 +1,5 @@
 // The C structs of include/star_search.h: plain numbers, in the layout that a host in C sees.
+// Kept: numbers, and a tag beside the value of an option, in every struct here, since C has no such enums (DECISIONS 53).
 
 // The search state. `phase` is 0 for fresh, 1 for at its next read and 2 for ended; `status`, used where the state is ended, is 0 for TooFew,
 // 1 for NoMatch and 2 for Timeout. The numbers from `pass` to `probe` name the next read, `four` being its combination's positions.
@@ -6,7 +7,6 @@
 #[repr(C)]
 #[derive(Clone, Copy)]
 pub struct StarState {
-    // Kept: numbers, since C has no such enum.
     pub phase: u32,
     pub status: u32,
     pub pass: u32,

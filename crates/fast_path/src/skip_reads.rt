@@ -35,7 +35,7 @@ impl Reads<'_, '_> {
     ghost use Rattle.fast_path.specs.SkipStep.{home_at, FilledKeys, SkipStep, KeyStep};
 
     // Returns the home slot of key k.
-    // Kept: that k is one of the keys is a clause, as for an index; a struct of the reads and a key would be made anew for each key.
+    // Kept: that k is a key, and below that a probe is below the slot count, are clauses, as for an index; a struct of them would be made for each key.
     fn home(&self, k: u32) -> u32
         requires { (k < self.now.keys) × (0 < self.now.known.table.slots) }
         ensures { (result ≡ home_at self.now k) × (result < self.now.known.table.slots) }

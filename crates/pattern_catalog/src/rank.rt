@@ -63,6 +63,8 @@ impl TableSlot<'_> {
     }
 
     // Returns the place of the slot's entry, counted on from that of the slot `from`, which is in the same word and not after this one.
+    // Kept: `from` and `there` apart, here, below and in fast_path, since what holds of them is said of this slot too, and one test of `from` also
+    // tells that no place is known.
     pub fn near_rank(&self, entries: u64, from: usize, there: u64) -> Option<u64>
         requires { (from ≤ self.now.slot) × (from / 64 ≡ self.now.slot / 64) × (there ≡ place self.now.words.now from) × (there < 9223372036854775808) }
         ensures { result ≡ ranked_at self.now.words.now self.now.slot entries }

@@ -52,7 +52,8 @@ fn after_skip(cursor: Cursor, p: Position, s: SkipResult, allowance: u64) -> Cur
 }
 
 // One read, the cache loaded for it, and what it makes of the call.
-// Kept: `Ready` is a clause, here and below, since it is said of frame, table, cursor and cache together.
+// Kept: `Ready` is a clause, here, below and in call.rt, said of frame, table, cursor and cache together; these go apart, since cursor and allowance
+// change from read to read.
 fn single_read(
     fitting: &FittingFrame<'_>,
     table: &Table<'_>,

@@ -10,6 +10,7 @@ ghost use Rattle.search_cache.specs.AngleArray.{row_at, direction_at, three_of, 
 use combinations::Combination;
 
 // 64 directions of three numbers each, then one angle for each two of 64 positions in the kept list. An angle is -1 until it is first worked out.
+// Kept: one array, and -1 for an angle that is not worked out, which one comparison tells (DECISIONS 43).
 #[derive(Drop)]
 pub struct Geometry {
     pub numbers: [f32; 2208],
@@ -133,6 +134,7 @@ impl Geometry {
     }
 
     // Returns the angles of the six pairs of four positions, in the source's order, and stores those that the array did not have.
+    // Kept: that the angles are cached is a clause, here and in two other functions, since it is said of the positions up to q's last alone.
     pub fn six_angles(&mut self, q: Combination) -> [f32; 6]
         requires { Rising 64 q × AnglesCached (suc q.d) self.old.numbers }
         ensures six { result ≡ angles (four_at self.old.numbers q) }

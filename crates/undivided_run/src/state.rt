@@ -168,6 +168,7 @@ impl Position {
     }
 
     // Returns how many combinations are tried once this read is made, `patterns` before it: one more where it is its combination's first read.
+    // Kept: that counts are below 2^63 is a clause, here, in search_step and in pattern_search: a step adds one, after which a field would not have it.
     #[tactic(auto, unfolding(crate::specs::Step::count_tried, crate::specs::Undivided::starts, crate::specs::Undivided::is_zero))]
     pub fn count(self, patterns: u64) -> u64
         requires { patterns < 9223372036854775808 }
