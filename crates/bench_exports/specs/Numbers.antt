@@ -2,8 +2,7 @@
 use Rattle.std.specs.Prelude.{ℕ, List, get_or}
 use Rattle.std.specs.Float.{binary32}
 use Rattle.std.specs.Float.Ieee.{of_bits}
-use Rattle.pattern_entry.specs.Entry.{word_at, mark_in}
-use Rattle.pattern_entry.specs.Entry.{star}
+use Rattle.pattern_entry.specs.Entry.{star, word_at, mark_in}
 use Rattle.pattern_entry.specs.declared.entry.PatternEntry.{PatternEntry}
 use Rattle.bench_exports.specs.declared.entry.RawEntry.{RawEntry}
 

@@ -32,7 +32,7 @@ fn image_vector(centroids: &[f32], order: &[u32], p: Place, scale: f32) -> [f32;
 }
 
 // Returns the unit vectors of the centroids at four places, in the order of the places.
-// Kept: four by name; the map of candidates/src/star_vectors.rt, written for this, has a clause in its closure and a longer proof.
+// Kept: four by name, since a map, as candidates/src/star_vectors.rt has one, needs a clause in its closure and a longer proof.
 pub fn image_vectors(
     centroids: &[f32],
     order: &[u32],

@@ -24,6 +24,7 @@ pub struct Table<'a> {
 }
 
 // A frame of which questions 1 to 5 are answered yes.
+// Kept: the slot count goes beside it and not in it, since functions that read the table have it of their Table.
 #[derive(Clone, Copy)]
 pub struct FittingFrame<'a> {
     pub frame: Frame<'a>,

@@ -54,7 +54,7 @@ fn slot_of_probe(hash: u64, c: u32, slots: u64) -> u64
 }
 
 // The places of a combination in the brightness list.
-// Kept: four by name; the map of candidates/src/star_vectors.rt, written for this, has a clause in its closure and a longer proof.
+// Kept: four by name, since a map, as candidates/src/star_vectors.rt has one, needs a clause in its closure and a longer proof.
 fn places_at(places: &[Place; 64], q: Combination) -> [Place; 4]
     requires { (q.a < 64) × (q.b < 64) × (q.c < 64) × (q.d < 64) }
     ensures { result ≡ places_in places.now q }
