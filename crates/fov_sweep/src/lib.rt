@@ -97,13 +97,16 @@ fn offsets_of(estimate: f32, reach: f32, step: f32, most: usize) -> SweepOffsets
     }
 }
 
-// Returns how many values the sweep has, where they fit the room; otherwise a count above the room.
+// Returns how many values the sweep has, where they fit the room; otherwise a count above the room, at which counting stops.
 fn count_values(estimate: f32, reach: f32, step: f32, room: usize) -> usize
     requires { room ≤ 0x4000_0000_0000_0000 }
     ensures { min result (room + 1) ≡ min (length (estimate ∷ pairs_from room estimate reach step step)) (room + 1) }
 {
     let mut n: usize = 1;
     for offset in offsets_of(estimate, reach, step, room) {
+        if room < n {
+            return n;
+        }
         n += pair_count(estimate, offset);
     }
     n

@@ -16,3 +16,4 @@ pub mod Magnitudes
 pub mod SmallTruncation
 pub mod MapOf
 pub mod AllBelow
+pub mod Nans

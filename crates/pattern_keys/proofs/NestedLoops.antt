@@ -86,6 +86,14 @@ module _ (c : List ℕ) (B : ℕ) where
   loops_iteration g j a i k h d h' d' h'' d'' m r s p q =
       rw (run_more j a i k, concat_map_append g (run j a i k) (set k j (a + i) ∷ []), concat_map_one g (set k j (a + i))) (enumerated_chain h d h' d' h'' d'' m r s (concat_map g (run j a i k)) (g (set k j (a + i))) p q)
 
+  -- The value v is added, with all the keys that it leads to, behind those of the values from a on.
+  pub value_added : (g : List ℕ → List (List ℕ)) (j a v : ℕ) (k h d h' d' h'' d'' : List ℕ) (m r s : ℕ) → a ≤ v → Enumerated c B h d h' d' m r (concat_map g (run j a (v - a) k)) → Enumerated c B h' d' h'' d'' r s (g (set k j v))
+      → Enumerated c B h d h'' d'' m s (concat_map g (run j a (v + 1 - a) k))
+  value_added g j a v k h d h' d' h'' d'' m r s l p q =
+      let back : v ≡ a + (v - a) = omega (arith, l) in
+      let next : v + 1 - a ≡ v - a + 1 = omega (arith, l) in
+      rw next (loops_iteration g j a (v - a) k h d h' d' h'' d'' m r s p (subst (λ (x : ℕ). Enumerated c B h' d' h'' d'' r s (g (set k j x))) back q))
+
 -- ---- room
 run_part : (g : List ℕ → List (List ℕ)) (j a i t : ℕ) (k : List ℕ) → length (concat_map g (run j a i k)) ≤ length (concat_map g (run j a (i + t) k))
 run_part g j a i zero k = let e : i ≡ i + 0 = omega arith in omega (arith, ap (λ (z : ℕ). length (concat_map g (run j a z k))) e)

@@ -12,10 +12,9 @@ use Rattle.candidates.specs.declared.entry_tests.Image.{Image}
 use Rattle.search_feed.specs.Data.{Frame}
 use Rattle.pattern.specs.Edges.{angles, edges_of}
 use Rattle.search_feed.specs.Image.{tolerance_in, keys_in, hash_in, image_of, image_at}
-use Rattle.search_cache.specs.Cache.{HoldsCombination, CombinationCacheValid, LoadedCombination}
+use Rattle.search_cache.specs.Cache.{HoldsCombination, CombinationOf, LoadedCombination}
 use Rattle.search_cache.specs.declared.pass.Cache.{Cache}
 use Rattle.search_cache.specs.declared.pass.CombinationKeys.{CombinationKeys}
-use Rattle.search_cache.specs.declared.pass.KeptPass.{KeptPass}
 use Rattle.std.specs.Prelude.{Some}
 use Rattle.search_cache.specs.CombinationKeys.{image_from, Prepared}
 use Rattle.search_feed.specs.declared.SearchConfig.{SearchConfig}
@@ -37,14 +36,14 @@ unfolding image_from image_of edges_of
 angles_show v = refl
 
 -- A cache that says that it has this combination is loaded for it.
-pub four_again : (F : Frame) (p : KeptPass) (h : Cache) (q : Combination) (k : CombinationKeys) → h.pass ≡ Some p → CombinationCacheValid F h → h.four ≡ Some k → k.four ≡ q → LoadedCombination F p.number q h
-four_again F p h q k x d y e =
-    let f = rw (y, x) at d.four in
+pub four_again : (F : Frame) (i : ℕ) (h : Cache) (q : Combination) (k : CombinationKeys) → CombinationOf h.four F i h.hashes → h.four ≡ Some k → k.four ≡ q → LoadedCombination F i q h
+four_again F i h q k d y e =
+    let f = rw y at d in
     record {
       held = k;
       yes = y;
       is = e;
-      cached = subst (λ z. HoldsCombination F p.number z k.keys k.image h.hashes) e f;
+      cached = subst (λ z. HoldsCombination F i z k.keys k.image h.hashes) e f;
     }
 
 pub four_prepared : (F : Frame) (i : ℕ) (q : Combination) (c : SearchConfig) (shown : Image) (n : ℕ) (image : Image) (hashes : List ℕ) → F.config ≡ c → shown ≡ image_at F i q → Prepared c shown n image hashes → HoldsCombination F i q n image hashes

@@ -5,7 +5,7 @@ use native.Mathlib.Omega.{arith}
 use mathlib.Core.List.{List}
 use lib.ListN.{length}
 use lib.Ieee.{Float}
-use Rattle.std.specs.Prelude.{Some}
+use Rattle.std.specs.Prelude.{Option, None, Some}
 use Rattle.combinations.specs.declared.Combination.{Combination}
 use Rattle.combinations.specs.Combinations.{Rising}
 use Rattle.pattern.specs.Directions.{Directions}
@@ -13,10 +13,11 @@ use Rattle.search_cache.specs.AngleArray.{four_at, AnglesCached, SameDirections}
 use Rattle.preprocess.specs.declared.brightness_list.Place.{Place}
 use Rattle.search_feed.specs.Data.{Frame}
 use Rattle.search_feed.specs.Image.{kept_places, directions_of}
-use Rattle.search_cache.specs.Cache.{EmptyCache, HoldsPass, HoldsCombination, PassCacheValid, CombinationCacheValid, LoadedPass, LoadedCombination}
+use Rattle.search_cache.specs.Cache.{EmptyCache, HoldsPass, HoldsCombination, CombinationOf, CombinationIfAny, HashesFit, PassCacheValid, CombinationCacheValid, LoadedPass, LoadedCombination}
 use Rattle.search_feed.specs.Claims.{FrameFits}
 use Rattle.search_cache.specs.declared.pass.Cache.{Cache}
 use Rattle.search_cache.specs.declared.pass.CombinationKeys.{CombinationKeys}
+use Rattle.search_cache.specs.declared.pass.KeptPass.{KeptPass}
 use Rattle.search_feed.proofs.KeptSpots.{directions_small}
 use Rattle.search_cache.proofs.AngleArray.{cached_fewer}
 use Rattle.search_cache.proofs.LoadCombination.{rises_wider}
@@ -28,6 +29,18 @@ empty_pass F h e = record { pass = rw e.pass tt }
 
 pub empty_four : (F : Frame) (h : Cache) → EmptyCache h → CombinationCacheValid F h
 empty_four F h e = record { four = rw e.four tt }
+
+-- A cache whose hashes stay holds what it says where its pass and its combination still fit them.
+pub still_valid : (F : Frame) (before after : Cache) → after.hashes ≡ before.hashes → ((l : List ℕ) → HashesFit F before l → HashesFit F after l) → CombinationCacheValid F before → CombinationCacheValid F after
+still_valid F before after e f d = record { four = subst (λ l. HashesFit F after l) (sym e) (f before.hashes d.four) }
+
+-- The hashes of a cache that is loaded for a pass are of a combination of that pass, if of any.
+of_the_pass : (k : Option CombinationKeys) (F : Frame) (p : KeptPass) (l : List ℕ) → CombinationIfAny k (Some p) F l → CombinationOf k F p.number l
+of_the_pass (Some k) F p l d = d
+of_the_pass None F p l d = d
+
+pub combination_of : (F : Frame) (h : Cache) (p : KeptPass) → h.pass ≡ Some p → CombinationCacheValid F h → CombinationOf h.four F p.number h.hashes
+combination_of F h p e d = of_the_pass h.four F p h.hashes (subst (λ o. CombinationIfAny h.four o F h.hashes) e d.four)
 
 -- ---- A cache that is loaded for a pass.
 module _ (F : Frame) (i : ℕ) (h : Cache) (f : LoadedPass F i h) where

@@ -36,11 +36,21 @@ abbrev pub PassIfAny : Option KeptPass → Frame → List Place → List Float �
 PassIfAny (Some p) F places geometry = (p.number < length F.passes / 3) × HoldsPass F p.number p.kept places geometry
 PassIfAny None F places geometry = Unit {0}
 
--- Where a cache says that it is loaded for a combination and for a pass, the array holds the keys of that combination of that pass.
+-- Where a cache says that it is loaded for a combination, the array holds the keys of that combination of pass i.
+abbrev pub CombinationOf : Option CombinationKeys → Frame → ℕ → List ℕ → Type 0
+CombinationOf (Some k) F i hashes = HoldsCombination F i k.four k.keys k.image hashes
+CombinationOf None F i hashes = Unit {0}
+
+-- Where a cache says that it is loaded for a combination, the array holds the keys of that combination: of the pass that the cache is loaded for,
+-- or of some pass where it is loaded for none.
 abbrev pub CombinationIfAny : Option CombinationKeys → Option KeptPass → Frame → List ℕ → Type 0
 CombinationIfAny (Some k) (Some p) F hashes = HoldsCombination F p.number k.four k.keys k.image hashes
-CombinationIfAny (Some k) None F hashes = Unit {0}
+CombinationIfAny (Some k) None F hashes = (i : ℕ) × HoldsCombination F i k.four k.keys k.image hashes
 CombinationIfAny None p F hashes = Unit {0}
+
+-- The numbers l are what a cache may have as hashes, by the pass and the combination that it says it is loaded for.
+abbrev pub HashesFit : Frame → Cache → List ℕ → Type 0
+HashesFit F h l = CombinationIfAny h.four h.pass F l
 
 -- The arrays of a pass hold what the cache says. Their types say how long they are: 64 places, and 2208 = 64·3 + 64·63/2 numbers for the
 -- directions and an angle for each two of them.
@@ -49,7 +59,7 @@ pub record PassCacheValid (F : Frame) (h : Cache) : Type 0 where
 
 -- The array of a combination holds what the cache says.
 pub record CombinationCacheValid (F : Frame) (h : Cache) : Type 0 where
-  pub four : CombinationIfAny h.four h.pass F h.hashes
+  pub four : HashesFit F h h.hashes
 
 -- The cache is loaded for pass i, which exists.
 pub record LoadedPass (F : Frame) (i : ℕ) (h : Cache) : Type 0 where

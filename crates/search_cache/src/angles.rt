@@ -11,7 +11,7 @@ use combinations::Combination;
 
 // 64 directions of three numbers each, then one angle for each two of 64 positions in the kept list. An angle is -1 until it is first worked out.
 // Kept: one array, and -1 for an angle that is not worked out, which one comparison tells (DECISIONS 43).
-#[derive(Drop)]
+#[derive(Clone, Copy)]
 pub struct Geometry {
     pub numbers: [f32; 2208],
 }

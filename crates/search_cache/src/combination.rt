@@ -1,15 +1,14 @@
 // Loads the cache for a combination of its pass: what the frame shows of the combination, and the hashes of its keys. They are worked out anew
 // only when the combination changes.
-ghost use Rattle.std.specs.Prelude.{◌≡◌, suc, true, Some};
+ghost use Rattle.std.specs.Prelude.{◌≡◌, ℕ, suc, true, Some};
 ghost use Rattle.numeric.specs.Ratios.{Ratios};
 ghost use Rattle.pattern.specs.Directions.{Directions};
 ghost use Rattle.combinations.specs.Combinations.{Rising};
 ghost use Rattle.search_cache.specs.AngleArray.{four_at, AnglesCached, SameDirections};
 ghost use Rattle.search_feed.specs.Data.{Frame, settings_ok};
 ghost use Rattle.search_feed.specs.Image.{directions_of};
-ghost use Rattle.search_cache.specs.Cache.{CombinationCacheValid, LoadedCombination};
+ghost use Rattle.search_cache.specs.Cache.{CombinationOf, LoadedCombination};
 ghost use Rattle.search_cache.specs.CombinationKeys.{image_from, Prepared};
-ghost use Rattle.search_cache.specs.declared.pass.KeptPass.{KeptPass};
 
 use crate::pass::{Cache, CombinationKeys};
 use candidates::entry_tests::Image;
@@ -54,7 +53,7 @@ impl Cache {
     // Loads the cache for a combination of the pass that it is loaded for, unless it has that combination already, and returns its keys.
     pub fn load_combination(&mut self, config: SearchConfig, four: Combination) -> CombinationKeys
         requires { (settings_ok config ≡ true) × Rising 64 four × AnglesCached (suc four.d) self.old.geometry.numbers × Directions (four_at self.old.geometry.numbers four) }
-        ensures loaded { (F : Frame) (p : KeptPass) → F.config ≡ config → self.old.pass ≡ Some p → CombinationCacheValid F self.old → directions_of F p.number four ≡ four_at self.old.geometry.numbers four → LoadedCombination F p.number four self.new }
+        ensures loaded { (F : Frame) (i : ℕ) → F.config ≡ config → CombinationOf self.old.four F i self.old.hashes → directions_of F i four ≡ four_at self.old.geometry.numbers four → LoadedCombination F i four self.new }
         ensures rest { (self.new.pass ≡ self.old.pass) × (self.new.places ≡ self.old.places) × SameDirections self.old.geometry.numbers self.new.geometry.numbers }
         ensures keys { self.new.four ≡ Some result }
     {

@@ -1,9 +1,10 @@
 // The cache of a call: the kept list of the present pass, with the angles of its spots once they are worked out, and the keys of the present
 // combination, which combination.rt loads.
-ghost use Rattle.std.specs.Prelude.{◌≡◌, ◌/◌, ◌<◌, length};
+ghost use Rattle.std.specs.Prelude.{◌≡◌, ℕ, ◌/◌, ◌<◌, List, length, Some};
 ghost use Rattle.search_feed.specs.Image.{kept_places};
 ghost use Rattle.search_feed.specs.Lent.{frame_in};
-ghost use Rattle.search_cache.specs.Cache.{EmptyCache, PassCacheValid, CombinationCacheValid, LoadedPass};
+ghost use Rattle.search_cache.specs.Cache.{EmptyCache, PassCacheValid, HashesFit, LoadedPass};
+ghost use Rattle.search_cache.specs.declared.pass.KeptPass.{KeptPass};
 
 use crate::angles::Geometry;
 use candidates::entry_tests::Image;
@@ -28,7 +29,7 @@ pub struct CombinationKeys {
 
 // What a call keeps between reads. A call makes one, and lends it from then on.
 // Kept: what holds of it (specs/Cache.antt) is in the clauses of functions and no ghost field, since it is said of the frame too.
-#[derive(Drop)]
+#[derive(Clone, Copy)]
 pub struct Cache {
     // The pass that `places` and `geometry` are loaded for, if any.
     pub pass: Option<KeptPass>,
@@ -62,7 +63,8 @@ impl Cache {
     pub fn rebuild_pass(&mut self, fitting: &FittingFrame<'_>, pass: u32) -> u32
         requires { pass < length fitting.now.frame.passes.now / 3 }
         ensures loaded { LoadedPass (frame_in fitting.now.frame) pass self.new }
-        ensures combination { CombinationCacheValid (frame_in fitting.now.frame) self.new }
+        ensures combination { (l : List ℕ) → HashesFit (frame_in fitting.now.frame) self.new l }
+        ensures hashes { self.new.hashes ≡ self.old.hashes }
         ensures count { result ≡ length (kept_places (frame_in fitting.now.frame) pass) }
     {
         let p = settings::passes::pass_at(fitting.frame.passes, pass);
@@ -86,7 +88,8 @@ impl Cache {
     pub fn load_pass(&mut self, fitting: &FittingFrame<'_>, pass: u32) -> u32
         requires { PassCacheValid (frame_in fitting.now.frame) self.old × (pass < length fitting.now.frame.passes.now / 3) }
         ensures loaded { LoadedPass (frame_in fitting.now.frame) pass self.new }
-        ensures combination { CombinationCacheValid (frame_in fitting.now.frame) self.old → CombinationCacheValid (frame_in fitting.now.frame) self.new }
+        ensures combination { (l : List ℕ) → ((p : KeptPass) → self.old.pass ≡ Some p → p.number ≡ pass → HashesFit (frame_in fitting.now.frame) self.old l) → HashesFit (frame_in fitting.now.frame) self.new l }
+        ensures hashes { self.new.hashes ≡ self.old.hashes }
         ensures count { result ≡ length (kept_places (frame_in fitting.now.frame) pass) }
     {
         match self.pass {

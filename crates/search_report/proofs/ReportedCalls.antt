@@ -3,7 +3,9 @@ use mathlib.Core.Path.{◌≡◌, refl, sym, ap, ◌∙◌}
 use Prim.Native.Nat.{ℕ, zero, suc, ◌-◌, ◌<◌, ◌≤◌}
 use native.Mathlib.Omega.{arith}
 use mathlib.Core.Bool.{Bool, true, false, false≢true}
-use Rattle.std.specs.Prelude.{Option, None, Some}
+use Rattle.std.specs.Prelude.{Option, None, Some, Result, Ok, Err}
+use Rattle.question.specs.declared.Question.{Question}
+use Rattle.pattern_search.specs.declared.Answer.{Answer as Said}
 use Rattle.pattern_search.specs.declared.Searched.{Searched}
 use Rattle.candidates.specs.declared.entry_tests.Candidate.{Candidate as Found}
 use Rattle.undivided_run.specs.declared.state.State.{State}
@@ -23,6 +25,12 @@ zero_through : (st : State) (w : Next) → let_through (said (zero_call {C = Fou
 unfolding zero_call said let_through
 zero_through st (Goes r) = refl
 zero_through st (Ends s) = refl
+
+-- An answer that is no refusal is that of a call which was let through.
+pub others_through : (a : Result Said Question) → ((q : Question) → a ≡ Err q → ⊥) → let_through a ≡ true
+unfolding let_through
+others_through (Ok a) h = refl
+others_through (Err q) h = absurd (h q refl)
 
 -- What a call answers and leaves, by the number of the first no among questions 1 to 8.
 abbrev answered : Data → State → ℕ → Option ℕ → Answer Found × State

@@ -14,7 +14,9 @@ use std::io::Read;
 
 impl Lent {
     // Reads the three arrays of a table whose payload begins with the words w; the bytes are padded to a multiple of 4.
-    fn fill_table<R: Read>(&mut self, input: &mut R, w: Words) -> Result<(), Broken> {
+    fn fill_table<R: Read>(&mut self, input: &mut R, w: Words) -> Result<(), Broken>
+        ensures { self.new.inputs ≡ self.old.inputs }
+    {
         fill(input, &mut self.words, w[1] as usize)?;
         fill_bytes(input, &mut self.packed, w[2] as usize)?;
         pass_over(input, padding(w[2]))?;
@@ -22,14 +24,18 @@ impl Lent {
     }
 
     // Reads the three arrays of a frame whose payload begins with the words w.
-    fn fill_frame<R: Read>(&mut self, input: &mut R, w: Words) -> Result<(), Broken> {
+    fn fill_frame<R: Read>(&mut self, input: &mut R, w: Words) -> Result<(), Broken>
+        ensures { self.new.inputs ≡ self.old.inputs }
+    {
         fill(input, &mut self.centroids, w[0] as usize)?;
         fill(input, &mut self.order, w[1] as usize)?;
         fill(input, &mut self.passes, w[2] as usize)
     }
 
     // Reads the arrays of a payload that begins with the words w, where its kind has any.
-    fn fill_arrays<R: Read>(&mut self, input: &mut R, kind: Kind, w: Words) -> Result<(), Broken> {
+    fn fill_arrays<R: Read>(&mut self, input: &mut R, kind: Kind, w: Words) -> Result<(), Broken>
+        ensures { self.new.inputs ≡ self.old.inputs }
+    {
         match kind {
             Kind::Table => self.fill_table(input, w),
             Kind::Frame => self.fill_frame(input, w),
@@ -53,9 +59,11 @@ fn payload<R: Read>(input: &mut R, kind: Kind, length: u32) -> Result<(Words, u6
     Ok((words, rest))
 }
 
-// Reads the next record of the stream, if there is one: its kind and the first words of its payload. Its arrays go to the lent arrays.
+// Reads the next record of the stream, if there is one: its kind and the first words of its payload. Its arrays go to the lent arrays;
+// the inputs stay as they were, also where it fails.
 pub fn next_record<R: Read>(input: &mut R, lent: &mut Lent) -> Result<Option<(Kind, Words)>, Broken>
-    ensures { Fits result }
+    ensures fits { Fits result }
+    ensures inputs { lent.new.inputs ≡ lent.old.inputs }
 {
     let Some((number, length)) = next_head(input)? else {
         return Ok(None);

@@ -34,10 +34,11 @@ impl Number for f32 {
 // Reads the kind's number and the length of a record's payload in bytes, or nothing where no byte is left or the first can't be read.
 pub fn next_head<R: Read>(input: &mut R) -> Result<Option<(u32, u32)>, Broken> {
     let mut kind = [0; 4];
-    if !matches!(input.read(&mut kind[..1]), Ok(1)) {
+    let n = input.read(&mut kind).unwrap_or(0);
+    if n == 0 {
         return Ok(None);
     }
-    input.read_exact(&mut kind[1..])?;
+    input.read_exact(&mut kind[n..])?;
     let length = u32::read(input)?;
     Ok(Some((u32::from_le_bytes(kind), length)))
 }

@@ -11,6 +11,9 @@ loop-offset-init c =
     let a = c.args in
     (tt, tt, counted_start a.estimate a.reach a.step a.room _ (ap offsets_left c.into_iter-offset-iterator.ensures.into_iter_gives ∙ c.offsets_of-offset-items.ensures))
 
+pub returns-then-room-n : goal.returns-then-room-n
+returns-then-room-n c = omega (arith, c.loop-offset.invariant.2.same, c.if-room-n.true)
+
 pub overflow_add-n : goal.overflow_add-n
 overflow_add-n c =
     let a = c.args in

@@ -1,11 +1,11 @@
-use Rattle.std.proofs.Common.{◌≡◌, ℕ, ◌+◌, ◌-◌, ◌*◌, ◌<◌, ◌≤◌, set, refl, sym, subst, rules, arith}
+use Rattle.std.proofs.Common.{◌≡◌, ◌+◌, ◌-◌, ◌*◌, ◌<◌, ◌≤◌, set, refl, sym, rules, arith}
 use native.Mathlib.Nat.{sub_self, mul-le-mul}
 use Rattle.pattern.proofs.Hash.{hash_below}
 use Rattle.pattern.specs.Key.{hash_of}
 use Rattle.pattern_keys.specs.Keys.{concat_map, run, squared_distance}
 use Rattle.pattern_keys.specs.NestedLoops.{with_last, Enumerated}
 use Rattle.pattern_keys.proofs.CodeSums.{small}
-use Rattle.pattern_keys.proofs.NestedLoops.{enumerated_none, enumerated_one, loops_iteration, value_room, loop_is, parts_set, hash_last, distance_last}
+use Rattle.pattern_keys.proofs.NestedLoops.{enumerated_none, enumerated_one, value_added, value_room, loop_is, parts_set, hash_last, distance_last}
 use Rattle.pattern_keys.proofs.nested_loops.add_last.Goals as goal
 
 pub overflow_mul-square : goal.overflow_mul-square
@@ -52,8 +52,6 @@ loop-v-preserved c =
     let k = c.args.k in
     let l = c.loop-v in
     let a = c.max-v.result in
-    let back : l.v ≡ a + (l.v - a) = omega arith in
-    let next : l.v + 1 - a ≡ l.v - a + 1 = omega arith in
     let f = l.found in
     let y = c.push.new.self in
     let B = r.bins in
@@ -67,9 +65,8 @@ loop-v-preserved c =
     let room = value_room 1 r.lo r.hi k a l.v c.args.found.now.count f.count (omega arith) c.max-v.ensures (omega arith) (omega arith) l.invariant.added.count c.requires.1 in
     let one = enumerated_one r.centre B f.hashes f.dist f.count hash (apart.result + apart_v.result) (set k 4 l.v) (omega (arith, room)) (search rules) (search rules) h d in
     let here : Enumerated r.centre B f.hashes f.dist y.hashes y.dist f.count y.count (with_last 0 r.lo r.hi (set k 4 l.v)) = rw (p.0, p.1, p.2) one in
-    let more = subst (λ (x : ℕ). Enumerated r.centre B f.hashes f.dist y.hashes y.dist f.count y.count (with_last 0 r.lo r.hi (set k 4 x))) back here in
     record {
-      added = rw next (loops_iteration r.centre B (with_last 0 r.lo r.hi) 4 a (l.v - a) k _ _ _ _ _ _ _ _ _ l.invariant.added more);
+      added = value_added r.centre B (with_last 0 r.lo r.hi) 4 a l.v k _ _ _ _ _ _ _ _ _ (omega arith) l.invariant.added here;
       up_to = omega arith;
     }
 

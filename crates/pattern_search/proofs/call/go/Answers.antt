@@ -3,6 +3,7 @@ use Rattle.search_feed.specs.Lent.{data_in}
 use Rattle.pattern_entry.proofs.StarSlice.{fit_few}
 use Rattle.search_questions.proofs.Questions1To7.{seven_asked, seven_stars}
 use Rattle.search_cache.proofs.Loaded.{empty_pass, empty_four}
+use Rattle.search_step.proofs.CacheAfter.{after_valid}
 use Rattle.pattern_search.proofs.Calling.{call_eight, call_zero, call_run, ready}
 use Rattle.pattern_search.proofs.call.go.Goals as goal
 
@@ -32,7 +33,7 @@ returns-then-allowance-eq0 c =
 pub run-requires : goal.run-requires
 run-requires c =
     let D = data_in c.args.frame.now c.args.table.now in
-    (ready D c.args.st c.args.allowance c.requires _ (c.state_fits.ensures.fits D.words D.packed D.stars) c.if-not-state_fits.false _ (c.start_call-next.ensures.next D.words D.packed D.stars) _ c.start_call-next.ensures.caches.pass (c.start_call-next.ensures.caches.four c.state_fits.ensures.caches.1), fit_few D.stars (seven_stars D.frame c.args.table.now.slots D.words D.stars c.requires))
+    (ready D c.args.st c.args.allowance c.requires _ (c.state_fits.ensures.fits D.words D.packed D.stars) c.if-not-state_fits.false _ (c.start_call-next.ensures.next D.words D.packed D.stars) _ c.start_call-next.ensures.caches.pass (after_valid _ _ _ c.start_call-next.ensures.caches c.state_fits.ensures.caches.1), fit_few D.stars (seven_stars D.frame c.args.table.now.slots D.words D.stars c.requires))
 
 pub returns : goal.returns
 returns c =

@@ -23,10 +23,10 @@ pub start_pass-requires : goal.start_pass-requires
 start_pass-requires c = omega (arith, c.rebuild_pass-kept.ensures.count, kept_64 _ _ _ c.rebuild_pass-kept.ensures.loaded)
 
 pub returns-in-First : goal.returns-in-First
-returns-in-First c = record { next = λ w p x. ap Goes c.first_of.ensures ∙ sym (passes_first _ _ w p x _ _ _ _ c.loop-i-test.true _ c.reached.ensures c.if-reached.false _ c.rebuild_pass-kept.ensures.count _ c.start_pass.ensures _ c.in-First.is) ∙ c.loop-i.invariant.2 w p x; caches = kept_loaded _ _ _ _ c.rebuild_pass-kept.ensures.loaded c.rebuild_pass-kept.ensures.combination }
+returns-in-First c = record { next = λ w p x. ap Goes c.first_of.ensures ∙ sym (passes_first _ _ w p x _ _ _ _ c.loop-i-test.true _ c.reached.ensures c.if-reached.false _ c.rebuild_pass-kept.ensures.count _ c.start_pass.ensures _ c.in-First.is) ∙ c.loop-i.invariant.2 w p x; caches = kept_loaded _ _ _ _ _ c.loop-i.invariant.3 c.rebuild_pass-kept.ensures.loaded (λ l _. c.rebuild_pass-kept.ensures.combination l) c.rebuild_pass-kept.ensures.hashes }
 
 pub loop-i-preserved : goal.loop-i-preserved
-loop-i-preserved c = (omega (arith, c.loop-i-test.true), refl, λ w p x. passes_past _ _ w p x _ _ _ _ c.loop-i-test.true _ c.reached.ensures c.if-reached.false _ c.rebuild_pass-kept.ensures.count _ c.start_pass.ensures _ c.in-Over.is ∙ c.loop-i.invariant.2 w p x, kept_loaded _ _ _ _ c.rebuild_pass-kept.ensures.loaded c.rebuild_pass-kept.ensures.combination)
+loop-i-preserved c = (omega (arith, c.loop-i-test.true), refl, λ w p x. passes_past _ _ w p x _ _ _ _ c.loop-i-test.true _ c.reached.ensures c.if-reached.false _ c.rebuild_pass-kept.ensures.count _ c.start_pass.ensures _ c.in-Over.is ∙ c.loop-i.invariant.2 w p x, kept_loaded _ _ _ _ _ c.loop-i.invariant.3 c.rebuild_pass-kept.ensures.loaded (λ l _. c.rebuild_pass-kept.ensures.combination l) c.rebuild_pass-kept.ensures.hashes)
 
 pub returns : goal.returns
 returns c = record { next = λ w p x. sym (passes_end _ _ w p x _ _ _ _ c.loop-i-test.false) ∙ c.loop-i.invariant.2 w p x; caches = c.loop-i.invariant.3 }

@@ -11,7 +11,7 @@ use Rattle.search_cache.proofs.pass.Cache.load_combination.Goals as goal
 pub returns : goal.returns
 returns c =
     let h : c.in-Some.held.four ≡ c.args.four = search rules in
-    record { loaded = λ F p e x d w. four_again F p _ _ _ x d c.in-Some.is h; rest = (refl, refl, still_same _); keys = c.in-Some.is }
+    record { loaded = λ F i e d w. four_again F i _ _ _ d c.in-Some.is h; rest = (refl, refl, still_same _); keys = c.in-Some.is }
 
 pub prepare-keys-requires : goal.prepare-keys-requires
 prepare-keys-requires c =
@@ -25,7 +25,7 @@ returns-2 c =
     let x = c.six_angles-angles.ensures in
     let v = four_at c.args.self.now.geometry.numbers c.args.four in
     let s = ap image_from x.six ∙ angles_show v in record {
-      loaded = λ F q e l d w. record { held = c.prepare-keys.result; yes = refl; is = p.four; cached = four_prepared F _ _ _ _ _ _ _ e (s ∙ ap image_of (sym w)) p.keys };
+      loaded = λ F i e d w. record { held = c.prepare-keys.result; yes = refl; is = p.four; cached = four_prepared F _ _ _ _ _ _ _ e (s ∙ ap image_of (sym w)) p.keys };
       rest = (refl, refl, x.directions);
       keys = refl;
     }

@@ -18,6 +18,7 @@ pub returns : goal.returns
 returns c =
     let p = pass_thinned _ _ _ _ _ _ _ c.pass_at-p.ensures c.thin-kept.ensures c.load.ensures in record {
       loaded = record { held = record { number = c.args.pass; kept = c.thin-kept.result }; yes = refl; is = refl; inside = c.requires; cached = p };
-      combination = record { four = tt };
+      combination = λ l. tt;
+      hashes = refl;
       count = p.count;
     }
