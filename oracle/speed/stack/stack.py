@@ -24,9 +24,9 @@ def listing(program):
         taken = re.search(r"\tsub +\$0x([0-9a-f]+),%rsp", line)
         if taken and int(taken.group(1), 16) < 1 << 63:  # a negative number is given back
             frames[name] += int(taken.group(1), 16)
-        called = re.search(r"\t(?:call|jmp) +[0-9a-f]+ <([^+>]+)>", line)
-        if called and called.group(1) != name:
-            calls[name].add(called.group(1))
+        called = re.search(r"\t(call|jmp) +[0-9a-f]+ <([^+>]+)>", line)
+        if called and (called.group(1) == "call" or called.group(2) != name):  # a jump to its own start is a loop
+            calls[name].add(called.group(2))
         if re.search(r"\tcall +\*", line):
             calls[name].add("?")
     return frames, calls
