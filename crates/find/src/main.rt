@@ -4,6 +4,8 @@
 
 mod bundled;
 mod recorded;
+#[cfg(test)]
+mod tests;
 
 use crate::recorded::report_stream;
 use search_feed::lent::{Frame, Table};

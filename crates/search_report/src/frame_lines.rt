@@ -8,7 +8,7 @@ use preprocess::brightness_list::Place;
 
 impl Data<'_> {
     // Writes how many spots and passes the frame has.
-    pub(crate) fn frame_line(&self, rt: &impl Print) {
+    pub fn frame_line(&self, rt: &impl Print) {
         let spots = Count(self.frame.order.len() as u64, "spot", "spots");
         let passes = Count(self.frame.passes.len() as u64 / 3, "pass", "passes");
         let _ = println!(rt; "{spots}, {passes}");
@@ -41,7 +41,7 @@ impl Data<'_> {
 
     // Writes the line of a pass with the places that it keeps. The questions have let the data and the settings through before this is
     // called; the tests here establish the limits that `thinned` requires.
-    pub(crate) fn pass_line(&self, rt: &impl Print, pass: u32) {
+    pub fn pass_line(&self, rt: &impl Print, pass: u32) {
         let number = u64::from(pass) + 1;
         let _ = print!(rt; "  pass {number}");
         if self.frame.order.len() <= 256
