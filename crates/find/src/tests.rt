@@ -21,9 +21,8 @@ impl Print for Written {
     }
 
     fn println<D: Display + Drop>(&self, value: D) -> io::Result<()> {
-        let mut text = self.text.try_borrow_mut()?;
-        writeln!(text, "{value}")?;
-        Ok(())
+        self.print(value)?;
+        self.print("\n")
     }
 
     fn write_all(&self, bytes: &[u8]) -> io::Result<()> {
@@ -34,7 +33,7 @@ impl Print for Written {
     }
 }
 
-// The data of a frame of the bundled table, with these passes.
+// A frame with these passes, and the bundled table.
 fn data_of<'a>(centroids: &'a [f32], order: &'a [u32], passes: &'a [f32]) -> Data<'a> {
     Data {
         frame: Frame {
@@ -52,7 +51,8 @@ fn data_of<'a>(centroids: &'a [f32], order: &'a [u32], passes: &'a [f32]) -> Dat
     }
 }
 
-// A pass has the places that the source keeps of frame A, as in the file stdout; one that the frame lacks has none.
+// The line of a pass has the places that the source keeps of frame A: those in the file stdout, which oracle/run compares with the source's. The
+// line of a pass that the frame lacks has none.
 #[test]
 fn frame_and_pass_lines(rt: HostRuntime) -> Result<(), Fail> {
     let written = Written {
@@ -73,7 +73,8 @@ fn frame_and_pass_lines(rt: HostRuntime) -> Result<(), Fail> {
     Ok(())
 }
 
-// Of 256 spots at one point and 64 checking stars a pass keeps the first spot; with one checking star or one spot more no place is asked for.
+// With 256 spots at one point and 64 checking stars, each the most that there may be, a pass keeps the brightest spot, since the others are
+// closer to it than the separation. With one checking star or one spot more its line has no places.
 #[test]
 fn pass_line_at_its_limits(rt: HostRuntime) -> Result<(), Fail> {
     let written = Written {

@@ -39,8 +39,8 @@ impl Data<'_> {
         }
     }
 
-    // Writes the line of a pass with the places that it keeps. The questions have let the data and the settings through before this is
-    // called; the tests here establish the limits that `thinned` requires.
+    // Writes the line of a pass with the places that it keeps; it has none where the frame lacks the pass, has more than 256 spots or 64 checking
+    // stars, or a brightness list that doesn't fit its centroids. These are the limits that `thinned` requires.
     pub fn pass_line(&self, rt: &impl Print, pass: u32) {
         let number = u64::from(pass) + 1;
         let _ = print!(rt; "  pass {number}");
